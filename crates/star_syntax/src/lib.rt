@@ -1,0 +1,15 @@
+//! Tokens and trees of a cell.
+//!
+//! A cell's source is cut into tokens, and the tokens spell a module: the tree of its
+//! statements. The crates that read and run cells all speak of these types.
+#![tactic(auto)]
+
+pub mod expression;
+pub mod operator;
+pub mod statement;
+pub mod token;
+
+pub use expression::{Arguments, ChainLevel, ChainOp, Clause, Expr, Link, Named, Pair, Suffix};
+pub use operator::{BinaryOp, CompareOp, UnaryOp};
+pub use statement::{Block, Branch, Def, Definition, Line, Module, Small, SmallKind, Statement};
+pub use token::{Keyword, Mark, Spanned, Token};
