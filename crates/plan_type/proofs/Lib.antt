@@ -1,0 +1,9 @@
+pub mod PlanParts
+pub mod Sound
+pub mod Sizes
+pub mod Works
+pub mod WorkFits
+pub mod Entries
+pub mod Runs
+pub mod Led
+pub mod Reached
