@@ -29,14 +29,14 @@ kept_in : (p : ℕ → Bool) (xs : List ℕ) (k x : ℕ) → k < length xs → s
 kept_in p [] k x lt at is = absurd (omega arith)
 kept_in p (y ∷ ys) zero x lt at is = by (p y) (let e : y ≡ x = cc in subst (λ n. p n ≡ true) (sym e) is)
   where
-  by : (b : Bool) → b ≡ true → Contains (cond b (y ∷ filter p ys) (filter p ys)) x
-  by true h = (0, omega arith, (cc))
-  by false h = absurd (cc)
+    by : (b : Bool) → b ≡ true → Contains (cond b (y ∷ filter p ys) (filter p ys)) x
+    by true h = (0, omega arith, (cc))
+    by false h = absurd (cc)
 kept_in p (y ∷ ys) (suc k) x lt at is = by (p y) (kept_in p ys k x (omega arith) at is)
   where
-  by : (b : Bool) → Contains (filter p ys) x → Contains (cond b (y ∷ filter p ys) (filter p ys)) x
-  by true (j, l, a) = (suc j, omega arith, a)
-  by false h = h
+    by : (b : Bool) → Contains (filter p ys) x → Contains (cond b (y ∷ filter p ys) (filter p ys)) x
+    by true (j, l, a) = (suc j, omega arith, a)
+    by false h = h
 
 same : (u : ℕ) → (u == u) ≡ true
 same u = grind (arith, nat_tests)
@@ -58,18 +58,18 @@ row_there : (costs : Costs) (v : ℕ) → 0 < v → v ≤ length costs.rows → 
 row_there costs zero some le = absurd (omega arith)
 row_there costs (suc i) some le = by (slice_get_cases costs.rows i).1
   where
-  by : ((x : Row) × (i < length costs.rows) × (slice_get costs.rows i ≡ Some x) × (get_or costs.rows i x ≡ x)) ⊎ ((length costs.rows ≤ i) × (slice_get costs.rows i ≡ None)) → (row : Row) × (slice_get costs.rows i ≡ Some row)
-  by (inl h) = (h.0, h.2)
-  by (inr h) = let past = h.0 in absurd (omega arith)
+    by : ((x : Row) × (i < length costs.rows) × (slice_get costs.rows i ≡ Some x) × (get_or costs.rows i x ≡ x)) ⊎ ((length costs.rows ≤ i) × (slice_get costs.rows i ≡ None)) → (row : Row) × (slice_get costs.rows i ≡ Some row)
+    by (inl h) = (h.0, h.2)
+    by (inr h) = let past = h.0 in absurd (omega arith)
 
 -- what is neither failed nor unreached is reached
 open_row : (row : Row) → cuts (Some row) ≡ false → is_reached row.end ≡ true
 open_row row h = by row.end refl
   where
-  by : (end : Reach) → row.end ≡ end → is_reached end ≡ true
-  by Done is = refl
-  by Failed is = absurd (let e = ap (λ x. cuts (Some (record row { end = x }))) is in cc)
-  by Unreached is = absurd (let e = ap (λ x. cuts (Some (record row { end = x }))) is in cc)
+    by : (end : Reach) → row.end ≡ end → is_reached end ≡ true
+    by Done is = refl
+    by Failed is = absurd (let e = ap (λ x. cuts (Some (record row { end = x }))) is in cc)
+    by Unreached is = absurd (let e = ap (λ x. cuts (Some (record row { end = x }))) is in cc)
 
 module _ (costs : Costs) (sound : IsSound costs) where
   Led : ℕ → Type 0
@@ -81,7 +81,7 @@ module _ (costs : Costs) (sound : IsSound costs) where
       let number : 1 + (v - 1) ≡ v = omega arith in
       let lt : v - 1 < length costs.rows = omega arith in
       kept_in (λ x. is_child_in row.parent (row_of costs x)) (range_with_len 1 (length costs.rows)) (v - 1) v (rw (length-range_with_len 1 (length costs.rows)) lt)
-        (range_at 1 (length costs.rows) (v - 1) lt ∙ ap (λ n. Some n) number) (ap (is_child_in row.parent) is ∙ child_of_parent row reach)
+      (range_at 1 (length costs.rows) (v - 1) lt ∙ ap (λ n. Some n) number) (ap (is_child_in row.parent) is ∙ child_of_parent row reach)
 
   extend : (u v : ℕ) → Led u → Contains (children_of costs u) v → Led v
   unfolding Led

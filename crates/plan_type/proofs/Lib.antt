@@ -7,3 +7,5 @@ pub mod Entries
 pub mod Runs
 pub mod Led
 pub mod Reached
+pub mod Widths
+pub mod SoundBelow

@@ -39,7 +39,7 @@ unfolding cost_at rest_cost with_rest
 cost_parts tree prices p u back again =
     ap (λ f. f u back again) (fold_out-Plan Costing (layer_cost tree prices) p)
     ∙ listed_again (cost_at tree prices) (entry_cost tree prices u back again) (prices.save * tree.blocks u)
-        (λ hold. if hold then prices.load * tree.blocks u else back + again) false (entries_of p)
+    (λ hold. if hold then prices.load * tree.blocks u else back + again) false (entries_of p)
 
 -- ---- peak
 
@@ -114,13 +114,15 @@ induct P step = ind-Plan P (λ d y is.
 
 pub under_parts : (children : ℕ → List ℕ) (p : Plan) → every-Plan (LayerOrders children) p → LayerOrders children (out-Plan p) × AllByRecursion (λ e. every-Plan (LayerOrders children) e.rest) (entries_of p)
 unfolding bare
-under_parts children p h =
-    (every_here-Plan (LayerOrders children) p h, (let (y, is) = every_held-Plan (LayerOrders children) p h in
-      subst (λ v. AllByRecursion (λ e. every-Plan (LayerOrders children) e.rest) v.entries) is (entries_held (every-Plan (LayerOrders children)) y.entries)))
+under_parts children p h = (
+  every_here-Plan (LayerOrders children) p h,
+  (let (y, is) = every_held-Plan (LayerOrders children) p h in
+      subst (λ v. AllByRecursion (λ e. every-Plan (LayerOrders children) e.rest) v.entries) is (entries_held (every-Plan (LayerOrders children)) y.entries)),
+)
 
 pub under_made : (children : ℕ → List ℕ) (p : Plan) → LayerOrders children (out-Plan p) → AllByRecursion (λ e. every-Plan (LayerOrders children) e.rest) (entries_of p) → every-Plan (LayerOrders children) p
 unfolding bare
 under_made children p here each =
     let (ys, is) = entries_made (every-Plan (LayerOrders children)) (entries_of p) each in
     subst (every-Plan (LayerOrders children)) (roll-out-Plan p)
-      (every_made-Plan (LayerOrders children) (out-Plan p) (record { entries = ys }) (ap (λ l. record { entries = l }) is) here)
+    (every_made-Plan (LayerOrders children) (out-Plan p) (record { entries = ys }) (ap (λ l. record { entries = l }) is) here)

@@ -54,9 +54,9 @@ module _ (tree : Tree) where
   by_entry u anchor way e order reach [] v is = let h : (e.child == v) ≡ true = grind (arith, nat_tests) in rw h refl
   by_entry u anchor way e order reach (w ∷ ws) v leads = or_right (e.child == v) _ (by e.hold)
     where
-    by : (hold : Bool) → computes (if hold then ops_at tree e.rest e.child u (e.child ∷ []) else ops_at tree e.rest e.child anchor (way ++ e.child ∷ [])) v ≡ true
-    by true = reach e.child u (e.child ∷ []) w ws v order leads
-    by false = reach e.child anchor (way ++ e.child ∷ []) w ws v order leads
+      by : (hold : Bool) → computes (if hold then ops_at tree e.rest e.child u (e.child ∷ []) else ops_at tree e.rest e.child anchor (way ++ e.child ∷ [])) v ≡ true
+      by true = reach e.child u (e.child ∷ []) w ws v order leads
+      by false = reach e.child anchor (way ++ e.child ∷ []) w ws v order leads
 
   each_reached : (u anchor : ℕ) (way : List ℕ) (ws : List ℕ) (v : ℕ) (held : Bool) (es : List (Entry Plan))
       → AllByRecursion (λ e. Orders tree.children e.child (entries_of e.rest)) es → AllByRecursion (λ e. every-Plan (LayerOrders tree.children) e.rest) es → AllByRecursion (λ e. Reaches e.rest) es
@@ -66,13 +66,14 @@ module _ (tree : Tree) where
       let change = before u (tree.blocks u) held e.hold in
       let own = rest_ops tree u anchor way e in
       let turn = if is_none es then [] else return_ops tree u anchor way e.hold in
-      let more = listed_ops (rest_ops tree u anchor way) (before u (tree.blocks u)) (return_ops tree u anchor way) e.hold es in
-      ((λ leads. computes_right change _ v (computes_left own _ v (by_entry u anchor way e (record { here = orders.0; under = under.0 }) reach.0 ws v leads))),
-       later (λ h. computes_right change _ v (computes_right own _ v (computes_right turn more v h))) (named es) (each_reached u anchor way ws v e.hold es orders.1 under.1 reach.1))
+      let more = listed_ops (rest_ops tree u anchor way) (before u (tree.blocks u)) (return_ops tree u anchor way) e.hold es in (
+        (λ leads. computes_right change _ v (computes_left own _ v (by_entry u anchor way e (record { here = orders.0; under = under.0 }) reach.0 ws v leads))),
+        later (λ h. computes_right change _ v (computes_right own _ v (computes_right turn more v h))) (named es) (each_reached u anchor way ws v e.hold es orders.1 under.1 reach.1),
+      )
     where
-    later : {A B : Type 0} → (A → B) → (xs : List ℕ) → AllByRecursion (λ w. Leads tree.children w ws v → A) xs → AllByRecursion (λ w. Leads tree.children w ws v → B) xs
-    later f [] h = tt
-    later f (x ∷ xs) (h, g) = ((λ l. f (h l)), later f xs g)
+      later : {A B : Type 0} → (A → B) → (xs : List ℕ) → AllByRecursion (λ w. Leads tree.children w ws v → A) xs → AllByRecursion (λ w. Leads tree.children w ws v → B) xs
+      later f [] h = tt
+      later f (x ∷ xs) (h, g) = ((λ l. f (h l)), later f xs g)
 
   reached_by : (p : Plan) → AllByRecursion (λ e. Reaches e.rest) (entries_of p) → Reaches p
   unfolding Reaches
@@ -80,9 +81,9 @@ module _ (tree : Tree) where
       let (orders, under) = under_parts tree.children p order.under in
       let each = each_reached u anchor way ws v false (entries_of p) orders under reach in
       rw (ops_parts tree p u anchor way)
-        (All-contains (λ w. Leads tree.children w ws v → computes (listed_ops (rest_ops tree u anchor way) (before u (tree.blocks u)) (return_ops tree u anchor way) false (entries_of p)) v ≡ true) (tree.children u) w
-          (All-permutation (λ w. Leads tree.children w ws v → computes (listed_ops (rest_ops tree u anchor way) (before u (tree.blocks u)) (return_ops tree u anchor way) false (entries_of p)) v ≡ true) (named (entries_of p)) (tree.children u)
-            (IsPermutation-sym (tree.children u) (named (entries_of p)) order.here) (All-from_recursion _ (named (entries_of p)) each)) child leads)
+      (All-contains (λ w. Leads tree.children w ws v → computes (listed_ops (rest_ops tree u anchor way) (before u (tree.blocks u)) (return_ops tree u anchor way) false (entries_of p)) v ≡ true) (tree.children u) w
+      (All-permutation (λ w. Leads tree.children w ws v → computes (listed_ops (rest_ops tree u anchor way) (before u (tree.blocks u)) (return_ops tree u anchor way) false (entries_of p)) v ≡ true) (named (entries_of p)) (tree.children u)
+      (IsPermutation-sym (tree.children u) (named (entries_of p)) order.here) (All-from_recursion _ (named (entries_of p)) each)) child leads)
 
   pub carries : (prices : Prices) (most end : ℕ) → Grows tree end → (p : Plan) → IsPlanOf tree.children 0 p → HoldsNone (entries_of p) → peak_at tree.blocks p 0 0 ≤ most → Carries tree prices most p (operations tree p)
   unfolding Reaches Played

@@ -28,7 +28,6 @@ live_by m None u is live = absurd (cc)
 live_by m (Some w) u is live = live ∙ sym is
 
 module _ (tree : Tree) (prices : Prices) (most above : ℕ) (grows : Grows tree above) where
-
   pub record Passes (os : Ops) (m n : Machine) : Type 0 where
     pub legal : LegalAll tree prices most os m
     pub to : after_all tree prices os m ≡ n
@@ -74,7 +73,7 @@ module _ (tree : Tree) (prices : Prices) (most above : ℕ) (grows : Grows tree 
       → (if held then sum_by tree.blocks st + tree.blocks u else sum_by tree.blocks st) ≤ m.greatest
       → (if hold then sum_by tree.blocks st + tree.blocks u else sum_by tree.blocks st) ≤ most
       → Moves (before u (tree.blocks u) held hold) m u (if hold then u ∷ st else st) (if hold && not held then prices.save * tree.blocks u else 0)
-          (if hold then sum_by tree.blocks st + tree.blocks u else sum_by tree.blocks st)
+      (if hold then sum_by tree.blocks st + tree.blocks u else sum_by tree.blocks st)
   change u true true st m live stored fresh used fits =
       record { plays = record { end = m; passes = record { legal = tt; to = refl }; stored = stored; pays = omega arith; reaches = omega arith }; live = live }
   change u false false st m live stored fresh used fits =
@@ -168,7 +167,9 @@ module _ (tree : Tree) (prices : Prices) (most above : ℕ) (grows : Grows tree 
         plays = record {
           end = after tree prices (Restore u) m;
           passes = record { legal = (rw stored (rw (same u) refl), tt); to = refl };
-          stored = stored; pays = refl; reaches = omega arith;
+          stored = stored;
+          pays = refl;
+          reaches = omega arith;
         };
         live = refl;
       }
@@ -204,8 +205,8 @@ module _ (tree : Tree) (prices : Prices) (most above : ℕ) (grows : Grows tree 
       → (if hold then sum_by tree.blocks st + tree.blocks u else sum_by tree.blocks st) ≤ m.greatest
       → peak_at tree.blocks rest v (if hold then sum_by tree.blocks st + tree.blocks u else sum_by tree.blocks st) ≤ most
       → Plays (Compute v (tree.steps v) ∷ (if hold then ops_at tree rest v u (v ∷ []) else ops_at tree rest v anchor (way ++ v ∷ []))) m (if hold then u ∷ st else st)
-          (tree.steps v + (if hold then cost_at tree prices rest v (tree.steps v) (prices.load * tree.blocks u) else cost_at tree prices rest v (back + tree.steps v) again))
-          (peak_at tree.blocks rest v (if hold then sum_by tree.blocks st + tree.blocks u else sum_by tree.blocks st))
+      (tree.steps v + (if hold then cost_at tree prices rest v (tree.steps v) (prices.load * tree.blocks u) else cost_at tree prices rest v (back + tree.steps v) again))
+      (peak_at tree.blocks rest v (if hold then sum_by tree.blocks st + tree.blocks u else sum_by tree.blocks st))
   unfolding Played
   turn u anchor way back again st true v rest m played some below parent order stands live stored used fits =
       let next = after tree prices (Compute v (tree.steps v)) m in
@@ -218,8 +219,8 @@ module _ (tree : Tree) (prices : Prices) (most above : ℕ) (grows : Grows tree 
         agains = loads_of u (some refl);
       } in
       plays_compute u v m (ops_at tree rest v u (v ∷ [])) (u ∷ st) _ _ live parent
-        (subst (λ n. Plays (ops_at tree rest v u (v ∷ [])) next (u ∷ st) (cost_at tree prices rest v (tree.steps v) (prices.load * tree.blocks u)) (peak_at tree.blocks rest v n)) more
-          (played v u (v ∷ []) (tree.steps v) (prices.load * tree.blocks u) (u ∷ st) next order (λ z. absurd (omega arith)) here refl stored (omega (arith, more)) (subst (λ n. peak_at tree.blocks rest v n ≤ most) (sym more) fits)))
+      (subst (λ n. Plays (ops_at tree rest v u (v ∷ [])) next (u ∷ st) (cost_at tree prices rest v (tree.steps v) (prices.load * tree.blocks u)) (peak_at tree.blocks rest v n)) more
+      (played v u (v ∷ []) (tree.steps v) (prices.load * tree.blocks u) (u ∷ st) next order (λ z. absurd (omega arith)) here refl stored (omega (arith, more)) (subst (λ n. peak_at tree.blocks rest v n ≤ most) (sym more) fits)))
   turn u anchor way back again st false v rest m played some below parent order stands live stored used fits =
       let next = after tree prices (Compute v (tree.steps v)) m in
       let here : Stands v anchor (way ++ v ∷ []) (back + tree.steps v) again st = record {
@@ -230,7 +231,7 @@ module _ (tree : Tree) (prices : Prices) (most above : ℕ) (grows : Grows tree 
         agains = stands.agains;
       } in
       plays_compute u v m (ops_at tree rest v anchor (way ++ v ∷ [])) st _ _ live parent
-        (played v anchor (way ++ v ∷ []) (back + tree.steps v) again st next order (λ z. absurd (omega arith)) here refl stored used fits)
+      (played v anchor (way ++ v ∷ []) (back + tree.steps v) again st next order (λ z. absurd (omega arith)) here refl stored used fits)
 
   -- after the last entry
   close : (u : ℕ) (hold : Bool) (st : List ℕ) (m : Machine) → m.stored ≡ (if hold then u ∷ st else st)
@@ -249,8 +250,8 @@ module _ (tree : Tree) (prices : Prices) (most above : ℕ) (grows : Grows tree 
       → m.live ≡ Some u → m.stored ≡ (if held then u ∷ st else st) → (if held then sum_by tree.blocks st + tree.blocks u else sum_by tree.blocks st) ≤ m.greatest
       → greatest (rest_peak tree.blocks u (sum_by tree.blocks st)) (sum_by tree.blocks st) es ≤ most
       → Plays (listed_ops (rest_ops tree u anchor way) (before u (tree.blocks u)) (return_ops tree u anchor way) held es) m st
-          (listed_cost (rest_cost tree prices u back again) (prices.save * tree.blocks u) (returns u back again) held es)
-          (greatest (rest_peak tree.blocks u (sum_by tree.blocks st)) (sum_by tree.blocks st) es)
+      (listed_cost (rest_cost tree prices u back again) (prices.save * tree.blocks u) (returns u back again) held es)
+      (greatest (rest_peak tree.blocks u (sum_by tree.blocks st)) (sum_by tree.blocks st) es)
   unfolding rest_ops rest_cost rest_peak
   played_list u anchor way back again st stands held [] m below parents orders under played some live stored used fits = close u held st m stored used
   played_list u anchor way back again st stands held (e ∷ []) m below parents orders under played some live stored used fits =
@@ -278,9 +279,9 @@ module _ (tree : Tree) (prices : Prices) (most above : ℕ) (grows : Grows tree 
   some_above u [] none = tt
   some_above u (e ∷ es) none = (by (eq-zero-or-pos u), some_above u es (λ z. (none z).1))
     where
-    by : (u ≡ 0) ⊎ (0 < u) → e.hold ≡ true → 0 < u
-    by (inl z) on = let off = (none z).0 in absurd (cc)
-    by (inr lt) on = lt
+      by : (u ≡ 0) ⊎ (0 < u) → e.hold ≡ true → 0 < u
+      by (inl z) on = let off = (none z).0 in absurd (cc)
+      by (inr lt) on = lt
 
   played_by : (p : Plan) → AllByRecursion (λ e. Played e.rest) (entries_of p) → Played p
   unfolding Played
@@ -290,7 +291,7 @@ module _ (tree : Tree) (prices : Prices) (most above : ℕ) (grows : Grows tree 
       let (orders, under) = under_parts tree.children p order.under in
       let top = rw (peak_parts tree.blocks p u (sum_by tree.blocks st)) at fits in
       rw (ops_parts tree p u anchor way, cost_parts tree prices p u back again, peak_parts tree.blocks p u (sum_by tree.blocks st))
-        (played_list u anchor way back again st stands false (entries_of p) m below parents orders under played (some_above u (entries_of p) none) live stored used top)
+      (played_list u anchor way back again st stands false (entries_of p) m below parents orders under played (some_above u (entries_of p) none) live stored used top)
 
   pub plays : (p : Plan) → Played p
   plays = induct Played played_by

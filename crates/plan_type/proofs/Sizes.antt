@@ -25,10 +25,10 @@ over_kept : (p : ℕ → Bool) (f : ℕ → ℕ) (a n : ℕ) → sum_by f (filte
 over_kept p f a zero = refl
 over_kept p f a (suc n) = by (p a) (over_kept p f (a + 1) n)
   where
-  by : (b : Bool) → sum_by f (filter p (range_with_len (a + 1) n)) ≡ over (a + 1) n (λ x. if p x then f x else 0)
-      → sum_by f (cond b (a ∷ filter p (range_with_len (a + 1) n)) (filter p (range_with_len (a + 1) n))) ≡ (if b then f a else 0) + over (a + 1) n (λ x. if p x then f x else 0)
-  by true i = let e = sum_by-cons f a (filter p (range_with_len (a + 1) n)) in omega (arith, e, i)
-  by false i = omega (arith, i)
+    by : (b : Bool) → sum_by f (filter p (range_with_len (a + 1) n)) ≡ over (a + 1) n (λ x. if p x then f x else 0)
+        → sum_by f (cond b (a ∷ filter p (range_with_len (a + 1) n)) (filter p (range_with_len (a + 1) n))) ≡ (if b then f a else 0) + over (a + 1) n (λ x. if p x then f x else 0)
+    by true i = let e = sum_by-cons f a (filter p (range_with_len (a + 1) n)) in omega (arith, e, i)
+    by false i = omega (arith, i)
 
 -- what is 0 up to a place may be left out
 over_from : (f : ℕ → ℕ) (a n k : ℕ) → ((x : ℕ) → a ≤ x → x < a + k → f x ≡ 0) → k ≤ n → over a n f ≡ over (a + k) (n - k) f
@@ -69,9 +69,9 @@ child_at costs u v is = ap or_zero (child_parent u (row_of costs v) is)
 parent_at_below : (costs : Costs) → IsSound costs → (v : ℕ) → 1 ≤ v → parent_at costs v < v
 parent_at_below costs sound v low = by (parent_of costs v) refl
   where
-  by : (o : Option ℕ) → parent_of costs v ≡ o → or_zero o < v
-  by None is = omega arith
-  by (Some u) is = parent_below costs sound u v is
+    by : (o : Option ℕ) → parent_of costs v ≡ o → or_zero o < v
+    by None is = omega arith
+    by (Some u) is = parent_below costs sound u v is
 
 module _ (costs : Costs) (sound : IsSound costs) where
   -- the nodes below a node, to a depth
@@ -95,17 +95,17 @@ module _ (costs : Costs) (sound : IsSound costs) where
   unfolding below
   no_child depth k v low le = by (is_child costs k v) refl
     where
-    by : (b : Bool) → is_child costs k v ≡ b → (if b then 1 + size depth v else 0) ≡ 0
-    by false is = refl
-    by true is = let e = child_at costs k v is in let s = parent_at_below costs sound v low in absurd (omega (arith, e, s))
+      by : (b : Bool) → is_child costs k v ≡ b → (if b then 1 + size depth v else 0) ≡ 0
+      by false is = refl
+      by true is = let e = child_at costs k v is in let s = parent_at_below costs sound v low in absurd (omega (arith, e, s))
 
   both : (depth k v : ℕ) → head depth k v + below depth (k + 1) v ≤ head depth (k + 1) v
   unfolding head below
   both depth k v = by (is_child costs (k + 1) v) refl
     where
-    by : (b : Bool) → is_child costs (k + 1) v ≡ b → (if nat_le (parent_at costs v) k then 1 + size depth v else 0) + (if b then 1 + size depth v else 0) ≤ (if nat_le (parent_at costs v) (k + 1) then 1 + size depth v else 0)
-    by true is = let e = child_at costs (k + 1) v is in more (parent_at costs v) k (size depth v) e
-    by false is = less (parent_at costs v) k (size depth v)
+      by : (b : Bool) → is_child costs (k + 1) v ≡ b → (if nat_le (parent_at costs v) k then 1 + size depth v else 0) + (if b then 1 + size depth v else 0) ≤ (if nat_le (parent_at costs v) (k + 1) then 1 + size depth v else 0)
+      by true is = let e = child_at costs (k + 1) v is in more (parent_at costs v) k (size depth v) e
+      by false is = less (parent_at costs v) k (size depth v)
 
   one : (depth u v : ℕ) (b : Bool) → is_child costs u v ≡ b → below depth u v ≤ head depth u v
   unfolding head below
@@ -141,5 +141,5 @@ module _ (costs : Costs) (sound : IsSound costs) where
       let h = heads depth (length costs.rows - u) u (omega arith) in
       omega (arith, s, a, h)
     where
-    child_head : (depth u v : ℕ) → below depth u v ≤ head depth u v
-    child_head depth u v = one depth u v (is_child costs u v) refl
+      child_head : (depth u v : ℕ) → below depth u v ≤ head depth u v
+      child_head depth u v = one depth u v (is_child costs u v) refl

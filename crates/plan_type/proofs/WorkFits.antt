@@ -44,9 +44,9 @@ module _ (costs : Costs) (sound : IsSound costs) where
       let c = sum_by-cons (λ v. (1 + size costs sound depth v) * 513000000) e.child (named es) in
       omega (arith, few, s, i, r, h, c)
     where
-    by : (hold : Bool) → steps_of costs e.child ≤ 1000000 → (if hold then steps_of costs e.child else back + steps_of costs e.child) ≤ e.child * 1000000
-    by true s = omega (arith, s)
-    by false s = omega (arith, s)
+      by : (hold : Bool) → steps_of costs e.child ≤ 1000000 → (if hold then steps_of costs e.child else back + steps_of costs e.child) ≤ e.child * 1000000
+      by true s = omega (arith, s)
+      by false s = omega (arith, s)
 
   fits_by : (p : Plan) → AllByRecursion (λ e. Fits e.rest) (entries_of p) → Fits p
   unfolding Fits size tree_of
@@ -57,17 +57,17 @@ module _ (costs : Costs) (sound : IsSound costs) where
       let (orders, under) = under_parts (children_of costs) p order.under in
       let parts = work_parts (steps_of costs) p back in
       at depth (entries_of p) above below parts deep
-        (λ d deeper. let l = list_fits d u back deeper low (entries_of p) above below orders under fits in
-            let s = sum_by-IsPermutation (λ v. (1 + size costs sound d v) * 513000000) (children_of costs u) (named (entries_of p)) order.here in
-            let t = sum_times (λ v. 1 + size costs sound d v) (children_of costs u) in omega (arith, l, s, t))
+      (λ d deeper. let l = list_fits d u back deeper low (entries_of p) above below orders under fits in
+      let s = sum_by-IsPermutation (λ v. (1 + size costs sound d v) * 513000000) (children_of costs u) (named (entries_of p)) order.here in
+      let t = sum_times (λ v. 1 + size costs sound d v) (children_of costs u) in omega (arith, l, s, t))
     where
-    at : (depth : ℕ) (es : List (Entry Plan)) → AllByRecursion (λ v. u < v) (named es) → AllByRecursion (λ v. v < length costs.rows + 1) (named es)
-        → work_at (steps_of costs) p back ≡ listed_work (rest_work (steps_of costs) back) back es → length costs.rows ≤ u + depth
-        → ((d : ℕ) → length costs.rows ≤ u + suc d → listed_work (rest_work (steps_of costs) back) back (entries_of p) ≤ size costs sound (suc d) u * 513000000)
-        → work_at (steps_of costs) p back ≤ size costs sound depth u * 513000000
-    at zero [] above below parts deep next = omega (arith, parts)
-    at zero (e ∷ es) (a, above) (b, below) parts deep next = absurd (omega arith)
-    at (suc d) es above below parts deep next = let n = next d deep in let w = work_parts (steps_of costs) p back in omega (arith, n, w)
+      at : (depth : ℕ) (es : List (Entry Plan)) → AllByRecursion (λ v. u < v) (named es) → AllByRecursion (λ v. v < length costs.rows + 1) (named es)
+          → work_at (steps_of costs) p back ≡ listed_work (rest_work (steps_of costs) back) back es → length costs.rows ≤ u + depth
+          → ((d : ℕ) → length costs.rows ≤ u + suc d → listed_work (rest_work (steps_of costs) back) back (entries_of p) ≤ size costs sound (suc d) u * 513000000)
+          → work_at (steps_of costs) p back ≤ size costs sound depth u * 513000000
+      at zero [] above below parts deep next = omega (arith, parts)
+      at zero (e ∷ es) (a, above) (b, below) parts deep next = absurd (omega arith)
+      at (suc d) es above below parts deep next = let n = next d deep in let w = work_parts (steps_of costs) p back in omega (arith, n, w)
 
   pub work_small : (p : Plan) → IsPlanOf (children_of costs) 0 p → work_at (steps_of costs) p 0 < 2 ^ 63
   unfolding Fits

@@ -31,9 +31,9 @@ module _ (tree : Tree) where
   Plain p = (u back again : ℕ) → again ≡ 0 → cost_at tree no_prices p u back again ≡ work_at tree.steps p back
 
   one : (u back again : ℕ) (v : ℕ) (rest : Plan) → Plain rest → again ≡ 0 → (hold held none : Bool) (a b : ℕ) → a ≡ b →
-        tree.steps v + (if hold then cost_at tree no_prices rest v (tree.steps v) (0 * tree.blocks u) else cost_at tree no_prices rest v (back + tree.steps v) again)
-          + (if hold && not held then 0 * tree.blocks u else 0) + (if none then 0 else if hold then 0 * tree.blocks u else back + again) + a
-        ≡ tree.steps v + work_at tree.steps rest (if hold then tree.steps v else back + tree.steps v) + (if hold then 0 else if none then 0 else back) + b
+      tree.steps v + (if hold then cost_at tree no_prices rest v (tree.steps v) (0 * tree.blocks u) else cost_at tree no_prices rest v (back + tree.steps v) again)
+      + (if hold && not held then 0 * tree.blocks u else 0) + (if none then 0 else if hold then 0 * tree.blocks u else back + again) + a
+      ≡ tree.steps v + work_at tree.steps rest (if hold then tree.steps v else back + tree.steps v) + (if hold then 0 else if none then 0 else back) + b
   unfolding Plain
   one u back again v rest plain zero true true true a b i = let h = plain v (tree.steps v) (0 * tree.blocks u) (omega arith) in omega (arith, h)
   one u back again v rest plain zero true true false a b i = let h = plain v (tree.steps v) (0 * tree.blocks u) (omega arith) in omega (arith, h)

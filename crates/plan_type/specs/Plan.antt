@@ -1,12 +1,12 @@
 -- Plans: their class, their cost and peak, and which of them are least.
-use Rattle.std.specs.Prelude.{ℕ, ◌≡◌, ◌≤◌, ◌+◌, List, [], ◌∷◌, map, max, Bool, true, false, if◌then◌else◌, IsPermutation}
+use Rattle.std.specs.Prelude.{ℕ, ◌≡◌, ◌≤◌, ◌+◌, ◌*◌, ◌^◌, List, [], ◌∷◌, length, map, max, Bool, true, false, if◌then◌else◌, IsPermutation}
 use Rattle.std.specs.List.{AllByRecursion}
 use Rattle.plan_type.specs.declared.budget.Budget.{Budget}
 use Rattle.plan_type.specs.declared.costs.Costs.{Costs}
 use Rattle.plan_type.specs.declared.plan.Plan.{Plan, out-Plan, fold-Plan, every-Plan}
 use Rattle.plan_type.specs.declared.plan.Plan.TheOpen.{Plan-F}
 use Rattle.plan_type.specs.declared.plan.Entry.{Entry}
-use Rattle.plan_type.specs.Costs.{children_of, steps_of, blocks_of}
+use Rattle.plan_type.specs.Costs.{Climbs, children_of, steps_of, blocks_of}
 
 abbrev pub entries_of : Plan → List (Entry Plan)
 entries_of p = (out-Plan p).entries
@@ -63,6 +63,12 @@ work_at steps = fold-Plan (ℕ → ℕ) (layer_work steps)
 abbrev pub work : Costs → Plan → ℕ
 work costs p = work_at (steps_of costs) p 0
 
+-- a plan of some node that is made again by at most a million steps for each number up to its own
+pub record IsPlanFrom (costs : Costs) (p : Plan) (back : ℕ) : Type 0 where
+  pub node : ℕ
+  pub plan : IsPlanOf (children_of costs) node p
+  pub low : back ≤ node * 1000000
+
 -- ---- peak
 
 -- the greatest that an entry comes to; none comes to less than what is used before it
@@ -86,6 +92,12 @@ peak_at blocks = fold-Plan Peaking (layer_peak blocks)
 
 abbrev pub peak : Costs → Budget → Plan → ℕ
 peak costs budget p = peak_at (blocks_of costs budget.block) p 0 0
+
+-- as many blocks as the nodes above this one can have, at 2 ^ 56 for each
+pub record IsWithin (costs : Costs) (u used : ℕ) : Type 0 where
+  pub way : List ℕ
+  pub climbs : Climbs costs u way
+  pub low : used ≤ length way * 2 ^ 56
 
 -- ---- least
 
