@@ -7,5 +7,6 @@ pub mod Entries
 pub mod Runs
 pub mod Led
 pub mod Reached
+pub mod Listed
 pub mod Widths
 pub mod SoundBelow

@@ -6,7 +6,7 @@ use Rattle.plan_type.specs.declared.plan.Plan.{Plan, out-Plan, roll-Plan, out-ro
 use Rattle.plan_type.specs.declared.plan.Plan.TheOpen.{Plan-F}
 use Rattle.plan_type.specs.declared.plan.Entry.{Entry}
 use Rattle.plan_type.specs.Costs.{Tree}
-use Rattle.plan_type.specs.Operations.{Ops, Listing, before, listed_ops, remake, entry_ops, layer_ops, ops_at}
+use Rattle.plan_type.specs.Operations.{Ops, Listing, before, listed_ops, remake, entry_ops, layer_ops, way_back, ops_at}
 use Rattle.plan_type.specs.declared.operations.Operation.TheVariants.{Compute, Restore}
 use Rattle.plan_type.specs.Plan.{entries_of, LayerOrders, greatest, Peaking, entry_peak, layer_peak, peak_at}
 use Rattle.plan_type.specs.Prices.{Prices, listed_cost, Costing, entry_cost, layer_cost, cost_at}
@@ -78,15 +78,12 @@ ops_again g each change return stored (e ∷ []) = refl
 ops_again g each change return stored (e ∷ f ∷ es) =
     ap (λ r. change stored e.hold ++ (each (with_rest g e) ++ (return e.hold ++ r))) (ops_again g each change return e.hold (f ∷ es))
 
-abbrev pub return_ops : Tree → ℕ → ℕ → List ℕ → Bool → Ops
-return_ops tree u anchor way hold = if hold then Restore u ∷ [] else remake tree anchor way
-
 pub ops_parts : (tree : Tree) (p : Plan) (u anchor : ℕ) (way : List ℕ) →
-    ops_at tree p u anchor way ≡ listed_ops (rest_ops tree u anchor way) (before u (tree.blocks u)) (return_ops tree u anchor way) false (entries_of p)
+    ops_at tree p u anchor way ≡ listed_ops (rest_ops tree u anchor way) (before u (tree.blocks u)) (way_back tree.steps u anchor way) false (entries_of p)
 unfolding ops_at rest_ops with_rest
 ops_parts tree p u anchor way =
     ap (λ f. f u anchor way) (fold_out-Plan Listing (layer_ops tree) p)
-    ∙ ops_again (ops_at tree) (entry_ops tree u anchor way) (before u (tree.blocks u)) (return_ops tree u anchor way) false (entries_of p)
+    ∙ ops_again (ops_at tree) (entry_ops tree u anchor way) (before u (tree.blocks u)) (way_back tree.steps u anchor way) false (entries_of p)
 
 -- ---- induction
 

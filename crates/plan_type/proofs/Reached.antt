@@ -13,11 +13,11 @@ use Rattle.plan_type.specs.declared.costs.Costs.{Costs}
 use Rattle.plan_type.specs.Costs.{Tree, tree_of, children_of, steps_of, blocks_of, IsReached, IsSound}
 use Rattle.plan_type.specs.Plan.{named, entries_of, is_none, Orders, LayerOrders, IsPlanOf, IsPlan, HoldsNone, work, work_at, peak, peak_at}
 use Rattle.plan_type.specs.Prices.{Prices, no_prices, cost_at}
-use Rattle.plan_type.specs.Operations.{Ops, before, listed_ops, ops_at, operations, start, after, after_all, LegalAll, computes, computes_one, CarriesOut}
+use Rattle.plan_type.specs.Operations.{Ops, before, listed_ops, ops_at, way_back, operations_of, start, after, after_all, LegalAll, computes, computes_one, CarriesOut}
 use Rattle.plan_type.proofs.Sound.{Grows, grows}
 use Rattle.plan_type.proofs.Led.{Leads, led}
 use Rattle.plan_type.proofs.Works.{plain}
-use Rattle.plan_type.proofs.PlanParts.{rest_ops, return_ops, ops_parts, induct, under_parts}
+use Rattle.plan_type.proofs.PlanParts.{rest_ops, ops_parts, induct, under_parts}
 use Rattle.plan_type.proofs.Runs.{Stands, plays, Played}
 
 -- what the operations of a plan do on the machine at these prices
@@ -60,13 +60,13 @@ module _ (tree : Tree) where
 
   each_reached : (u anchor : ℕ) (way : List ℕ) (ws : List ℕ) (v : ℕ) (held : Bool) (es : List (Entry Plan))
       → AllByRecursion (λ e. Orders tree.children e.child (entries_of e.rest)) es → AllByRecursion (λ e. every-Plan (LayerOrders tree.children) e.rest) es → AllByRecursion (λ e. Reaches e.rest) es
-      → AllByRecursion (λ w. Leads tree.children w ws v → computes (listed_ops (rest_ops tree u anchor way) (before u (tree.blocks u)) (return_ops tree u anchor way) held es) v ≡ true) (named es)
+      → AllByRecursion (λ w. Leads tree.children w ws v → computes (listed_ops (rest_ops tree u anchor way) (before u (tree.blocks u)) (way_back tree.steps u anchor way) held es) v ≡ true) (named es)
   each_reached u anchor way ws v held [] orders under reach = tt
   each_reached u anchor way ws v held (e ∷ es) orders under reach =
       let change = before u (tree.blocks u) held e.hold in
       let own = rest_ops tree u anchor way e in
-      let turn = if is_none es then [] else return_ops tree u anchor way e.hold in
-      let more = listed_ops (rest_ops tree u anchor way) (before u (tree.blocks u)) (return_ops tree u anchor way) e.hold es in (
+      let turn = if is_none es then [] else way_back tree.steps u anchor way e.hold in
+      let more = listed_ops (rest_ops tree u anchor way) (before u (tree.blocks u)) (way_back tree.steps u anchor way) e.hold es in (
         (λ leads. computes_right change _ v (computes_left own _ v (by_entry u anchor way e (record { here = orders.0; under = under.0 }) reach.0 ws v leads))),
         later (λ h. computes_right change _ v (computes_right own _ v (computes_right turn more v h))) (named es) (each_reached u anchor way ws v e.hold es orders.1 under.1 reach.1),
       )
@@ -81,11 +81,11 @@ module _ (tree : Tree) where
       let (orders, under) = under_parts tree.children p order.under in
       let each = each_reached u anchor way ws v false (entries_of p) orders under reach in
       rw (ops_parts tree p u anchor way)
-      (All-contains (λ w. Leads tree.children w ws v → computes (listed_ops (rest_ops tree u anchor way) (before u (tree.blocks u)) (return_ops tree u anchor way) false (entries_of p)) v ≡ true) (tree.children u) w
-      (All-permutation (λ w. Leads tree.children w ws v → computes (listed_ops (rest_ops tree u anchor way) (before u (tree.blocks u)) (return_ops tree u anchor way) false (entries_of p)) v ≡ true) (named (entries_of p)) (tree.children u)
+      (All-contains (λ w. Leads tree.children w ws v → computes (listed_ops (rest_ops tree u anchor way) (before u (tree.blocks u)) (way_back tree.steps u anchor way) false (entries_of p)) v ≡ true) (tree.children u) w
+      (All-permutation (λ w. Leads tree.children w ws v → computes (listed_ops (rest_ops tree u anchor way) (before u (tree.blocks u)) (way_back tree.steps u anchor way) false (entries_of p)) v ≡ true) (named (entries_of p)) (tree.children u)
       (IsPermutation-sym (tree.children u) (named (entries_of p)) order.here) (All-from_recursion _ (named (entries_of p)) each)) child leads)
 
-  pub carries : (prices : Prices) (most end : ℕ) → Grows tree end → (p : Plan) → IsPlanOf tree.children 0 p → HoldsNone (entries_of p) → peak_at tree.blocks p 0 0 ≤ most → Carries tree prices most p (operations tree p)
+  pub carries : (prices : Prices) (most end : ℕ) → Grows tree end → (p : Plan) → IsPlanOf tree.children 0 p → HoldsNone (entries_of p) → peak_at tree.blocks p 0 0 ≤ most → Carries tree prices most p (Reset ∷ ops_at tree p 0 0 [])
   unfolding Reaches Played
   carries prices most end grows p orders holds_none fits =
       let from = after tree prices Reset start in
@@ -101,7 +101,7 @@ module _ (tree : Tree) where
       }
 
 -- the list of a plan that fits carries it out
-pub carries_out : (costs : Costs) (budget : Budget) (p : Plan) → IsSound costs → IsPlan costs p → peak costs budget p ≤ budget.most → CarriesOut costs budget p (operations (tree_of costs budget.block) p)
+pub carries_out : (costs : Costs) (budget : Budget) (p : Plan) → IsSound costs → IsPlan costs p → peak costs budget p ≤ budget.most → CarriesOut costs budget p (operations_of costs budget p)
 unfolding tree_of
 carries_out costs budget p sound plan fits =
     let c = carries (tree_of costs budget.block) no_prices budget.most (length costs.rows + 1) (grows costs budget.block sound) p plan.orders plan.holds_none fits in

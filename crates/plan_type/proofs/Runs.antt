@@ -13,8 +13,8 @@ use Rattle.plan_type.specs.Costs.{Tree}
 use Rattle.plan_type.proofs.Sound.{Grows}
 use Rattle.plan_type.specs.Plan.{named, entries_of, Orders, LayerOrders, IsPlanOf, HoldsNone, greatest, peak_at}
 use Rattle.plan_type.specs.Prices.{Prices, listed_cost, cost_at}
-use Rattle.plan_type.specs.Operations.{Ops, before, listed_ops, ops_at, Machine, stores, IsLive, after, after_all, LegalAll}
-use Rattle.plan_type.proofs.PlanParts.{rest_cost, cost_parts, rest_peak, peak_parts, rest_ops, return_ops, ops_parts, induct, under_parts, peak_above}
+use Rattle.plan_type.specs.Operations.{Ops, before, listed_ops, ops_at, way_back, Machine, stores, IsLive, after, after_all, LegalAll}
+use Rattle.plan_type.proofs.PlanParts.{rest_cost, cost_parts, rest_peak, peak_parts, rest_ops, ops_parts, induct, under_parts, peak_above}
 
 same : (u : ℕ) → (u == u) ≡ true
 same u = grind (arith, nat_tests)
@@ -160,7 +160,7 @@ module _ (tree : Tree) (prices : Prices) (most above : ℕ) (grows : Grows tree 
   returns u back again hold = if hold then prices.load * tree.blocks u else back + again
 
   remade : (u anchor : ℕ) (way : List ℕ) (back again : ℕ) (st : List ℕ) (hold : Bool) (m : Machine) → Stands u anchor way back again st → m.stored ≡ (if hold then u ∷ st else st)
-      → Moves (return_ops tree u anchor way hold) m u (if hold then u ∷ st else st) (returns u back again hold) 0
+      → Moves (way_back tree.steps u anchor way hold) m u (if hold then u ∷ st else st) (returns u back again hold) 0
   unfolding plays_as
   remade u anchor way back again st true m stands stored =
       record {
@@ -249,7 +249,7 @@ module _ (tree : Tree) (prices : Prices) (most above : ℕ) (grows : Grows tree 
       → AllByRecursion (λ e. e.hold ≡ true → 0 < u) es
       → m.live ≡ Some u → m.stored ≡ (if held then u ∷ st else st) → (if held then sum_by tree.blocks st + tree.blocks u else sum_by tree.blocks st) ≤ m.greatest
       → greatest (rest_peak tree.blocks u (sum_by tree.blocks st)) (sum_by tree.blocks st) es ≤ most
-      → Plays (listed_ops (rest_ops tree u anchor way) (before u (tree.blocks u)) (return_ops tree u anchor way) held es) m st
+      → Plays (listed_ops (rest_ops tree u anchor way) (before u (tree.blocks u)) (way_back tree.steps u anchor way) held es) m st
       (listed_cost (rest_cost tree prices u back again) (prices.save * tree.blocks u) (returns u back again) held es)
       (greatest (rest_peak tree.blocks u (sum_by tree.blocks st)) (sum_by tree.blocks st) es)
   unfolding rest_ops rest_cost rest_peak

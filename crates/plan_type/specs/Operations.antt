@@ -31,8 +31,8 @@ listed_ops each change return stored (e ∷ es) =
     change stored e.hold ++ (each e ++ ((if is_none es then [] else return e.hold) ++ listed_ops each change return e.hold es))
 
 -- how a node is made again: from the nearest held ancestor, 0 for none, down the way to it
-abbrev pub remake : Tree → ℕ → List ℕ → Ops
-remake tree anchor way = (if anchor == 0 then Reset else Restore anchor) ∷ map (λ v. Compute v (tree.steps v)) way
+abbrev pub remake : (ℕ → ℕ) → ℕ → List ℕ → Ops
+remake steps anchor way = (if anchor == 0 then Reset else Restore anchor) ∷ map (λ v. Compute v (steps v)) way
 
 -- at a node, with its nearest held ancestor and the way from there
 abbrev pub Listing : Type 0
@@ -44,15 +44,18 @@ entry_ops tree u anchor way e =
     Compute e.child (tree.steps e.child) ∷ (if e.hold then e.rest e.child u (e.child ∷ []) else e.rest e.child anchor (way ++ e.child ∷ []))
 
 -- after an entry that holds the node is restored, and after another it is made again
+abbrev pub way_back : (ℕ → ℕ) → ℕ → ℕ → List ℕ → Bool → Ops
+way_back steps u anchor way hold = if hold then Restore u ∷ [] else remake steps anchor way
+
 abbrev pub layer_ops : Tree → Plan-F Listing → Listing
-layer_ops tree d u anchor way =
-    listed_ops (entry_ops tree u anchor way) (before u (tree.blocks u)) (λ hold. if hold then Restore u ∷ [] else remake tree anchor way) false d.entries
+layer_ops tree d u anchor way = listed_ops (entry_ops tree u anchor way) (before u (tree.blocks u)) (way_back tree.steps u anchor way) false d.entries
 
 unfoldable pub ops_at : Tree → Plan → Listing
 ops_at tree = fold-Plan Listing (layer_ops tree)
 
-abbrev pub operations : Tree → Plan → Ops
-operations tree p = Reset ∷ ops_at tree p 0 0 []
+-- the operations of a whole plan begin at the empty state
+abbrev pub operations_of : Costs → Budget → Plan → Ops
+operations_of costs budget p = Reset ∷ ops_at (tree_of costs budget.block) p 0 0 []
 
 -- ---- the machine
 
