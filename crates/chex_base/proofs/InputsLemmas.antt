@@ -1,0 +1,35 @@
+-- A name that is above all names of the inputs.
+use Rattle.std.proofs.Common.{◌≡◌, ℕ, List, [], ◌∷◌, ◌++◌, Less, Greater, refl, sym, ap, subst, append_assoc, ◌∙◌}
+use Rattle.std.proofs.lemmas.Cmp.{nat_list_cmp_total}
+use Rattle.std.specs.List.{AllByRecursion}
+use Rattle.std.specs.List.Sorted.{IsStrictlySortedBy}
+use Rattle.std.specs.Map.{keys_of}
+use Rattle.std.specs.Ordering.{ordering_reverse}
+use Rattle.std.specs.Str.{encode_utf8_all}
+use Rattle.chex_base.specs.TextOrder.{text_cmp}
+use Rattle.chex_base.specs.Inputs.{with_value, IsRising}
+use Rattle.chex_base.specs.declared.input.Input.{Input}
+
+pub text_cmp-reversed : (a b : List ℕ) → text_cmp a b ≡ Less → text_cmp b a ≡ Greater
+text_cmp-reversed a b less = nat_list_cmp_total.antisymm (encode_utf8_all b) (encode_utf8_all a) ∙ ap ordering_reverse less
+
+below_middle : (first : List ℕ) (done : List (List ℕ × Input)) (e : List ℕ × Input) (more : List (List ℕ × Input))
+    → AllByRecursion (λ y. text_cmp first y ≡ Less) (keys_of (done ++ e ∷ more)) → text_cmp first e.0 ≡ Less
+below_middle first [] e more h = h.0
+below_middle first (x ∷ done) e more h = below_middle first done e more h.1
+
+-- a name that is above those before it goes last
+pub with_value-last : (done : List (List ℕ × Input)) (e : List ℕ × Input) (more : List (List ℕ × Input))
+    → IsRising (done ++ e ∷ more) → with_value done e.0 e.1 ≡ done ++ e ∷ []
+unfolding IsStrictlySortedBy
+with_value-last [] e more h = refl
+with_value-last (first ∷ done) e more h =
+    let above : text_cmp e.0 first.0 ≡ Greater = text_cmp-reversed first.0 e.0 (below_middle first.0 done e more h.0) in
+    rw above (ap (λ rest. first ∷ rest) (with_value-last done e more h.1))
+
+-- a map that is copied as far as to a name, with that name's value
+pub one_more-copied : (copied more whole : List (List ℕ × Input)) (name : List ℕ) (value : Input)
+    → IsRising whole → copied ++ (name, value) ∷ more ≡ whole → with_value copied name value ++ more ≡ whole
+one_more-copied copied more whole name value rising is =
+    ap (λ front. front ++ more) (with_value-last copied (name, value) more (subst IsRising (sym is) rising))
+    ∙ append_assoc copied ((name, value) ∷ []) more ∙ is
