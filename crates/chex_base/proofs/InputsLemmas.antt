@@ -1,17 +1,18 @@
--- A name that is above all names of the inputs.
-use Rattle.std.proofs.Common.{◌≡◌, ℕ, List, [], ◌∷◌, ◌++◌, Less, Greater, refl, sym, ap, subst, append_assoc, ◌∙◌}
+-- Names of the inputs: one that is above all others, and one that is another.
+use Rattle.std.proofs.Common.{◌≡◌, ◌≢◌, ℕ, List, [], ◌∷◌, ◌++◌, Ordering, Less, Equal, Greater, false, refl, sym, ap, subst, append_assoc, ◌∙◌}
 use Rattle.std.proofs.lemmas.Cmp.{nat_list_cmp_total}
 use Rattle.std.specs.List.{AllByRecursion}
 use Rattle.std.specs.List.Sorted.{IsStrictlySortedBy}
 use Rattle.std.specs.Map.{keys_of}
-use Rattle.std.specs.Ordering.{ordering_reverse}
-use Rattle.std.specs.Str.{encode_utf8_all}
+use Rattle.std.specs.BTreeMap.{is_at}
+use Rattle.std.specs.FinMap.{nat_cmp-IsAntisymmetric, slice_cmp-IsAntisymmetric}
+use Rattle.std.specs.Ordering.{is_eq, ordering_reverse}
 use Rattle.chex_base.specs.TextOrder.{text_cmp}
 use Rattle.chex_base.specs.Inputs.{with_value, IsRising}
 use Rattle.chex_base.specs.declared.input.Input.{Input}
 
 pub text_cmp-reversed : (a b : List ℕ) → text_cmp a b ≡ Less → text_cmp b a ≡ Greater
-text_cmp-reversed a b less = nat_list_cmp_total.antisymm (encode_utf8_all b) (encode_utf8_all a) ∙ ap ordering_reverse less
+text_cmp-reversed a b less = nat_list_cmp_total.antisymm b a ∙ ap ordering_reverse less
 
 below_middle : (first : List ℕ) (done : List (List ℕ × Input)) (e : List ℕ × Input) (more : List (List ℕ × Input))
     → AllByRecursion (λ y. text_cmp first y ≡ Less) (keys_of (done ++ e ∷ more)) → text_cmp first e.0 ≡ Less
@@ -33,3 +34,12 @@ pub one_more-copied : (copied more whole : List (List ℕ × Input)) (name : Lis
 one_more-copied copied more whole name value rising is =
     ap (λ front. front ++ more) (with_value-last copied (name, value) more (subst IsRising (sym is) rising))
     ∙ append_assoc copied ((name, value) ∷ []) more ∙ is
+
+-- another name has another place
+pub not_at : (name other : List ℕ) → other ≢ name → is_at (text_cmp name) other ≡ false
+not_at name other differs = by (text_cmp name other) refl
+  where
+    by : (answer : Ordering) → text_cmp name other ≡ answer → is_eq answer ≡ false
+    by Less is = refl
+    by Equal is = absurd (differs (sym (slice_cmp-IsAntisymmetric nat_cmp-IsAntisymmetric name other is)))
+    by Greater is = refl

@@ -1,8 +1,7 @@
 //! The inputs of a version.
-ghost use Rattle.std.specs.Prelude.{◌≡◌, ℕ, List, [], false, IfOk, OnErr, OnOk};
+ghost use Rattle.std.specs.Prelude.{◌≡◌, ◌≢◌, ℕ, List, [], IfOk, OnErr, OnOk};
 ghost use Rattle.std.specs.Option.{option_copied};
 ghost use Rattle.chex_base.specs.Inputs.{value_of, with_value, IsRising};
-ghost use Rattle.chex_base.specs.TextOrder.{text_eq};
 
 use crate::{Input, NoMemory, Text};
 use std::alloc::Global;
@@ -47,8 +46,7 @@ impl Inputs {
     pub fn set(&mut self, name: Text, value: Input) -> Result<(), NoMemory>
         ensures ok { OnOk result (self.new ≡ with_value self.old name value) }
         ensures named { OnOk result (value_of self.new name ≡ Some value) }
-        ensures others { OnOk result ((other : List ℕ) → text_eq name other ≡ false
-            → value_of self.new other ≡ value_of self.old other) }
+        ensures others { OnOk result ((other : List ℕ) → other ≢ name → value_of self.new other ≡ value_of self.old other) }
         ensures rising { IsRising self.new }
         ensures err { OnErr result (self.new ≡ self.old) }
     {
