@@ -14,25 +14,31 @@ use Rattle.chex_base.specs.declared.input.Input.{Input}
 pub text_cmp-reversed : (a b : List ℕ) → text_cmp a b ≡ Less → text_cmp b a ≡ Greater
 text_cmp-reversed a b less = nat_list_cmp_total.antisymm b a ∙ ap ordering_reverse less
 
-below_middle : (first : List ℕ) (done : List (List ℕ × Input)) (e : List ℕ × Input) (more : List (List ℕ × Input))
-    → AllByRecursion (λ y. text_cmp first y ≡ Less) (keys_of (done ++ e ∷ more)) → text_cmp first e.0 ≡ Less
-below_middle first [] e more h = h.0
-below_middle first (x ∷ done) e more h = below_middle first done e more h.1
+below_middle : (first : List ℕ) (done : List (List ℕ × Input)) (name : List ℕ) (more : List (List ℕ))
+    → AllByRecursion (λ y. text_cmp first y ≡ Less) (keys_of done ++ name ∷ more) → text_cmp first name ≡ Less
+below_middle first [] name more h = h.0
+below_middle first (x ∷ done) name more h = below_middle first done name more h.1
 
 -- a name that is above those before it goes last
-pub with_value-last : (done : List (List ℕ × Input)) (e : List ℕ × Input) (more : List (List ℕ × Input))
-    → IsRising (done ++ e ∷ more) → with_value done e.0 e.1 ≡ done ++ e ∷ []
+pub with_value-last : (done : List (List ℕ × Input)) (name : List ℕ) (value : Input) (more : List (List ℕ))
+    → IsStrictlySortedBy text_cmp (keys_of done ++ name ∷ more) → with_value done name value ≡ done ++ (name, value) ∷ []
 unfolding IsStrictlySortedBy
-with_value-last [] e more h = refl
-with_value-last (first ∷ done) e more h =
-    let above : text_cmp e.0 first.0 ≡ Greater = text_cmp-reversed first.0 e.0 (below_middle first.0 done e more h.0) in
-    rw above (ap (λ rest. first ∷ rest) (with_value-last done e more h.1))
+with_value-last [] name value more h = refl
+with_value-last (first ∷ done) name value more h =
+    let above : text_cmp name first.0 ≡ Greater = text_cmp-reversed first.0 name (below_middle first.0 done name more h.0) in
+    rw above (ap (λ rest. first ∷ rest) (with_value-last done name value more h.1))
+
+pub keys_of-append : (xs ys : List (List ℕ × Input)) → keys_of (xs ++ ys) ≡ keys_of xs ++ keys_of ys
+keys_of-append [] ys = refl
+keys_of-append (x ∷ xs) ys = ap (λ names. x.0 ∷ names) (keys_of-append xs ys)
 
 -- a map that is copied as far as to a name, with that name's value
 pub one_more-copied : (copied more whole : List (List ℕ × Input)) (name : List ℕ) (value : Input)
     → IsRising whole → copied ++ (name, value) ∷ more ≡ whole → with_value copied name value ++ more ≡ whole
 one_more-copied copied more whole name value rising is =
-    ap (λ front. front ++ more) (with_value-last copied (name, value) more (subst IsRising (sym is) rising))
+    let sorted : IsStrictlySortedBy text_cmp (keys_of copied ++ name ∷ keys_of more)
+    = subst (IsStrictlySortedBy text_cmp) (ap keys_of (sym is) ∙ keys_of-append copied ((name, value) ∷ more)) rising in
+    ap (λ front. front ++ more) (with_value-last copied name value (keys_of more) sorted)
     ∙ append_assoc copied ((name, value) ∷ []) more ∙ is
 
 -- another name has another place

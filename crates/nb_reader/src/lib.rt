@@ -7,10 +7,12 @@
 #![tactic(auto)]
 
 pub mod fault;
+pub mod inputs;
 pub mod json;
 pub mod notebook;
 pub mod sources;
 
 pub use fault::{Counted, NbFault};
+pub use inputs::read_inputs;
 pub use notebook::read_notebook;
 pub use sources::Sources;
