@@ -1,0 +1,3 @@
+pub mod Reading
+pub mod Notebook
+pub mod Inputs
