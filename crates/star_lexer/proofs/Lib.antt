@@ -3,7 +3,10 @@ pub mod Numbers
 pub mod Scans
 pub mod Whole
 pub mod Runs
+pub mod Styles
+pub mod Escapes
 pub mod Parts
+pub mod Literals
 pub mod MarkLemmas
 pub mod Digits
 pub mod Places

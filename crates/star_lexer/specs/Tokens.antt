@@ -6,11 +6,11 @@ use Rattle.star_syntax.specs.declared.token.Spanned.{Spanned}
 use Rattle.star_lexer.specs.Lexeme.{Lexeme}
 use Rattle.star_lexer.specs.Lexeme as lexeme
 use Rattle.star_lexer.specs.Chars.{Chars, newlines}
+use Rattle.star_lexer.specs.Flaws.{Flaw}
 use Rattle.star_syntax.specs.declared.token.Token.{Token}
 use Rattle.star_syntax.specs.declared.token.Token.TheVariants as t
 use Rattle.star_lexer.specs.Layout.{spanned, start, passed, ended, line_end, settle, bracket, advanced, ends}
 use Rattle.star_lexer.specs.Pieces.{Piece, spelled, Stands, IsFaulty}
-use Rattle.star_lexer.specs.Reading.{Flaw}
 use Rattle.star_lexer.specs.Scan.{Lexed, at, ◌>>=◌}
 
 -- each piece is the longest at its place, before the pieces after it and the rest

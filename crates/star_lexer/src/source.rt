@@ -11,10 +11,10 @@ ghost use Rattle.star_lexer.specs.Lexing.{IsSo, Answers, Refuses, HasTokens, Has
 ghost use Rattle.star_lexer.specs.declared.error.LexKind.{LexKind};
 ghost use Rattle.star_syntax.specs.declared.token.Spanned.{Spanned};
 
-use crate::chars::newlines;
+use crate::chars::{front, newlines};
 use crate::error::{Fault, LexFault};
 use crate::layout::{Layout, push_some};
-use crate::pieces::{blank_at, front, token_at};
+use crate::pieces::{blank_at, token_at};
 use star_syntax::{Spanned, SpannedTokens, Token};
 use std::alloc::{AllocError, Global};
 
