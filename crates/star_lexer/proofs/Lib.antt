@@ -15,5 +15,6 @@ pub mod Begins
 pub mod Written
 pub mod Laws
 pub mod Once
+pub mod Passed
 pub mod Nested
 pub mod Lined

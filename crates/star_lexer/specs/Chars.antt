@@ -1,5 +1,5 @@
 -- Classes of characters. A text is the list of its code points.
-use Rattle.std.specs.Prelude.{ℕ, Bool, true, false, not, ◌&&◌, ◌||◌, ◌==◌, nat_le, List, [], ◌∷◌, count_by}
+use Rattle.std.specs.Prelude.{ℕ, Bool, true, false, not, ◌&&◌, ◌||◌, ◌==◌, nat_le, if◌then◌else◌, List, [], ◌∷◌, count_by}
 use Rattle.std.specs.Char.{is_ascii_digit, is_ascii_alphabetic, is_ascii_hexdigit}
 use Rattle.star_lexer.specs.declared.chars.Class.{Class}
 use Rattle.star_lexer.specs.declared.chars.Class.TheVariants as class
@@ -44,6 +44,11 @@ first (c ∷ cs) = c
 abbrev pub rest : Chars → Chars
 rest [] = []
 rest (c ∷ cs) = cs
+
+-- a `\r` just before a newline is passed over
+abbrev pub passed_over : Chars → Chars
+passed_over [] = []
+passed_over (c ∷ cs) = if c == 13 && first cs == newline then passed_over cs else c ∷ passed_over cs
 
 -- the text begins with the word
 abbrev pub begins : Chars → Chars → Bool
