@@ -1,0 +1,5 @@
+pub mod Costs
+pub mod Budget
+pub mod Plan
+pub mod Prices
+pub mod Operations

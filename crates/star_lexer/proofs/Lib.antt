@@ -1,0 +1,16 @@
+pub mod Contents
+pub mod Numbers
+pub mod Scans
+pub mod Whole
+pub mod Runs
+pub mod Parts
+pub mod MarkLemmas
+pub mod Digits
+pub mod Places
+pub mod Takes
+pub mod Begins
+pub mod Written
+pub mod Laws
+pub mod Once
+pub mod Nested
+pub mod Lined

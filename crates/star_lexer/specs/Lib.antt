@@ -1,0 +1,13 @@
+pub mod Chars
+pub mod Words
+pub mod Lexeme
+pub mod Reading
+pub mod Verdict
+pub mod Lengths
+pub mod Layout
+pub mod Settles
+pub mod Scan
+pub mod Pieces
+pub mod Tokens
+pub mod Lexing
+pub mod Nesting
