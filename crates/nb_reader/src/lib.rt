@@ -6,13 +6,17 @@
 //! is answered.
 #![tactic(auto)]
 
+pub mod entries;
 pub mod fault;
 pub mod inputs;
 pub mod json;
+pub mod manifest;
 pub mod notebook;
 pub mod sources;
 
+pub use entries::Entries;
 pub use fault::{Counted, NbFault};
 pub use inputs::read_inputs;
+pub use manifest::{Entry, Manifest, read_manifest};
 pub use notebook::read_notebook;
 pub use sources::Sources;
