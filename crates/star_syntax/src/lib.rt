@@ -4,6 +4,7 @@
 //! statements. The crates that read and run cells all speak of these types.
 #![tactic(auto)]
 
+pub mod copying;
 pub mod expression;
 pub mod operator;
 pub mod spelling;
