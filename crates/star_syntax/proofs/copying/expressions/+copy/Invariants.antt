@@ -4,43 +4,43 @@ use Rattle.star_syntax.proofs.copying.expressions.+copy.Given as goal
 -- each function goes down the tree, or stays and calls one of a lower number
 
 abbrev pub decreases-expr : goal.decreases-expr
-decreases-expr l = 5 * goal.size-expr l
+decreases-expr l = 6 * goal.size-expr l
 
 abbrev pub decreases-boxed : goal.decreases-boxed
-decreases-boxed l = 5 * goal.size-boxed l + 1
+decreases-boxed l = 6 * goal.size-boxed l + 1
 
 abbrev pub decreases-exprs : goal.decreases-exprs
-decreases-exprs l = 5 * goal.size-exprs l + 1
+decreases-exprs l = 6 * goal.size-exprs l + 1
 
 abbrev pub decreases-optional : goal.decreases-optional
-decreases-optional l = 5 * goal.size-optional l + 1
+decreases-optional l = 6 * goal.size-optional l + 1
 
 abbrev pub decreases-named : goal.decreases-named
-decreases-named l = 5 * goal.size-named l + 1
+decreases-named l = 6 * goal.size-named l + 1
 
 abbrev pub decreases-pairs : goal.decreases-pairs
-decreases-pairs l = 5 * goal.size-pairs l + 1
+decreases-pairs l = 6 * goal.size-pairs l + 1
 
 abbrev pub decreases-links : goal.decreases-links
-decreases-links l = 5 * goal.size-links l + 1
+decreases-links l = 6 * goal.size-links l + 1
 
 abbrev pub decreases-second_colon : goal.decreases-second_colon
-decreases-second_colon l = 5 * goal.size-second_colon l + 2
+decreases-second_colon l = 6 * goal.size-second_colon l + 2
 
 abbrev pub decreases-arguments : goal.decreases-arguments
-decreases-arguments l = 5 * goal.size-arguments l + 2
+decreases-arguments l = 6 * goal.size-arguments l + 2
 
 abbrev pub decreases-clause : goal.decreases-clause
-decreases-clause l = 5 * goal.size-clause l + 2
+decreases-clause l = 6 * goal.size-clause l + 2
 
 abbrev pub decreases-suffix : goal.decreases-suffix
-decreases-suffix l = 5 * goal.size-suffix l + 3
+decreases-suffix l = 6 * goal.size-suffix l + 3
 
 abbrev pub decreases-clauses : goal.decreases-clauses
-decreases-clauses l = 5 * goal.size-clauses l + 3
+decreases-clauses l = 6 * goal.size-clauses l + 3
 
 abbrev pub decreases-suffixes : goal.decreases-suffixes
-decreases-suffixes l = 5 * goal.size-suffixes l + 4
+decreases-suffixes l = 6 * goal.size-suffixes l + 4
 
 abbrev pub invariant-exprs-loop-tree : goal.invariant-exprs-loop-tree
 invariant-exprs-loop-tree l = l.copies ≡ take l.tree-index l.trees
