@@ -1,0 +1,9 @@
+use Rattle.std.proofs.Common.{◌≡◌, length}
+use Rattle.star_lexer.specs.Words.{lookup, reserved_text}
+use Rattle.star_lexer.proofs.reserved.reserved_of.Given as goal
+
+abbrev pub invariant-loop-table : goal.invariant-loop-table
+invariant-loop-table l = lookup reserved_text l.table l.word ≡ lookup reserved_text l.initial.table l.word
+
+abbrev pub decreases-loop-table : goal.decreases-loop-table
+decreases-loop-table l = length l.table

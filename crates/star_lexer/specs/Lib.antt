@@ -1,0 +1,15 @@
+pub mod Chars
+pub mod Words
+pub mod Lexeme
+pub mod Flaws
+pub mod Numbers
+pub mod Texts
+pub mod Reading
+pub mod Verdict
+pub mod Layout
+pub mod Settles
+pub mod Scan
+pub mod Pieces
+pub mod Tokens
+pub mod Lexing
+pub mod Nesting
