@@ -83,7 +83,10 @@ fn optional(alloc: Global, tree: &Option<Expr>) -> Result<Option<Expr>, NoMemory
 }
 
 #[cycle(copy)]
-fn second_colon(alloc: Global, step: &Option<Option<Expr>>) -> Result<Option<Option<Expr>>, NoMemory>
+fn second_colon(
+    alloc: Global,
+    step: &Option<Option<Expr>>,
+) -> Result<Option<Option<Expr>>, NoMemory>
     ensures { IfOk result (λ copy. copy ≡ step.now) }
 {
     Ok(match step {

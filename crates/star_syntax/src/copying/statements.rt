@@ -120,7 +120,10 @@ fn cases(alloc: Global, trees: &[Branch<Statement>]) -> Result<Items<Branch<Stat
 }
 
 #[cycle(copy)]
-fn otherwise(alloc: Global, tree: &Option<Block<Statement>>) -> Result<Option<Block<Statement>>, NoMemory>
+fn otherwise(
+    alloc: Global,
+    tree: &Option<Block<Statement>>,
+) -> Result<Option<Block<Statement>>, NoMemory>
     ensures { IfOk result (λ copy. copy ≡ tree.now) }
 {
     Ok(match tree {

@@ -68,7 +68,12 @@ fn paren(alloc: Global, out: &mut Vec<Token>, inner: &Expr) -> Result<(), NoMemo
 
 #[cycle(spell)]
 #[tactic(auto, using(crate::proofs::SpellingLemmas::spelling_laws))]
-fn signed(alloc: Global, out: &mut Vec<Token>, ops: &[UnaryOp], operand: &Expr) -> Result<(), NoMemory>
+fn signed(
+    alloc: Global,
+    out: &mut Vec<Token>,
+    ops: &[UnaryOp],
+    operand: &Expr,
+) -> Result<(), NoMemory>
     ensures { OnOk result (out.new.items ≡ out.old.items ++ (map sign_token ops.now ++ expr_spelling operand.now)) }
 {
     signs(out, ops)?;
