@@ -4,14 +4,19 @@
 //! statements. The crates that read and run cells all speak of these types.
 #![tactic(auto)]
 
+pub mod cell;
+pub mod copying;
 pub mod expression;
+pub mod names;
 pub mod operator;
 pub mod spelling;
 pub mod statement;
 pub mod token;
 pub mod tokens;
 
+pub use cell::{Cell, Cells, Program};
 pub use expression::{Arguments, ChainLevel, ChainOp, Clause, Expr, Link, Named, Pair, Suffix};
+pub use names::Names;
 pub use operator::{BinaryOp, CompareOp, UnaryOp};
 pub use spelling::{Tokens, spell};
 pub use statement::{Block, Branch, Def, Definition, Line, Module, Small, SmallKind, Statement};

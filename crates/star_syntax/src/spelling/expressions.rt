@@ -2,12 +2,12 @@
 
 ghost use Rattle.std.specs.Prelude.{◌≡◌, ◌++◌, [], ◌∷◌, ℕ, map, OnOk};
 ghost use Rattle.std.specs.List.{flat_map};
-ghost use Rattle.star_syntax.specs.Spelling.{expr_spelling, tests_spelling, default_spelling, listed, if_written, compare_tokens};
+ghost use Rattle.star_syntax.specs.Spelling.{expr_spelling, tests_spelling, default_spelling, listed, if_written, sign_token, compare_tokens};
 ghost use Rattle.star_syntax.specs.SpellingOfParts.{expr_suffix_spelling, expr_clause_spelling, expr_pair_spelling, expr_link_spelling, expr_arguments_spelling, optional_spelling, expr_step_spelling, listed_after, parts_spelling};
 ghost use Rattle.star_syntax.specs.declared.expression.Expr.TheOpen.{Expr-F};
 
 use crate::expression::{Arguments, Clause, Expr, Link, Named, Pair, Suffix};
-use crate::operator::CompareOp;
+use crate::operator::{CompareOp, UnaryOp};
 use crate::spelling::pieces::{
     chain_token, comparison, mark, mark_before, mark_if, name, nots, signs, word,
 };
@@ -27,11 +27,7 @@ pub fn expr(alloc: Global, out: &mut Vec<Token>, tree: &Expr) -> Result<(), NoMe
         Expr::None => word(out, Keyword::None)?,
         Expr::True => word(out, Keyword::True)?,
         Expr::False => word(out, Keyword::False)?,
-        Expr::Paren(inner) => {
-            mark(out, Mark::OpenRound)?;
-            expr(alloc, out, inner.get())?;
-            mark(out, Mark::CloseRound)?;
-        }
+        Expr::Paren(inner) => paren(alloc, out, inner.get())?,
         Expr::Tuple(items, comma) => {
             mark(out, Mark::OpenRound)?;
             display(alloc, out, items.as_slice(), *comma, Mark::CloseRound)?;
@@ -46,10 +42,7 @@ pub fn expr(alloc: Global, out: &mut Vec<Token>, tree: &Expr) -> Result<(), NoMe
             dict_over(alloc, out, key.get(), value.get(), over.as_slice())?;
         }
         Expr::Primary(head, all) => primary(alloc, out, head.get(), all.as_slice())?,
-        Expr::Signed(ops, operand) => {
-            signs(out, ops.as_slice())?;
-            expr(alloc, out, operand.get())?;
-        }
+        Expr::Signed(ops, operand) => signed(alloc, out, ops.as_slice(), operand.get())?,
         Expr::Chain(_, first, links) => chain(alloc, out, first.get(), links.as_slice())?,
         Expr::Compare(left, op, right) => compare(alloc, out, left.get(), *op, right.get())?,
         Expr::Not(count, operand) => {
@@ -61,6 +54,30 @@ pub fn expr(alloc: Global, out: &mut Vec<Token>, tree: &Expr) -> Result<(), NoMe
         }
     }
     Ok(())
+}
+
+#[cycle(spell)]
+#[tactic(auto, using(crate::proofs::SpellingLemmas::spelling_laws))]
+fn paren(alloc: Global, out: &mut Vec<Token>, inner: &Expr) -> Result<(), NoMemory>
+    ensures { OnOk result (out.new.items ≡ out.old.items ++ parts_spelling (Expr-F.Paren inner.now)) }
+{
+    mark(out, Mark::OpenRound)?;
+    expr(alloc, out, inner)?;
+    mark(out, Mark::CloseRound)
+}
+
+#[cycle(spell)]
+#[tactic(auto, using(crate::proofs::SpellingLemmas::spelling_laws))]
+fn signed(
+    alloc: Global,
+    out: &mut Vec<Token>,
+    ops: &[UnaryOp],
+    operand: &Expr,
+) -> Result<(), NoMemory>
+    ensures { OnOk result (out.new.items ≡ out.old.items ++ (map sign_token ops.now ++ expr_spelling operand.now)) }
+{
+    signs(out, ops)?;
+    expr(alloc, out, operand)
 }
 
 /// Tests with commas between.

@@ -11,6 +11,12 @@ use Rattle.star_syntax.proofs.spelling.expressions.+spell.Given as goal
 abbrev pub decreases-expr : goal.decreases-expr
 decreases-expr l = 5 * goal.size-expr l
 
+abbrev pub decreases-paren : goal.decreases-paren
+decreases-paren l = 5 * goal.size-paren l + 1
+
+abbrev pub decreases-signed : goal.decreases-signed
+decreases-signed l = 5 * goal.size-signed l + 1
+
 abbrev pub decreases-tests : goal.decreases-tests
 decreases-tests l = 5 * goal.size-tests l + 1
 
