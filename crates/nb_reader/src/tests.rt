@@ -56,18 +56,34 @@ fn refusal(alloc: Global, fault: &NbFault) -> Result<String, AllocError> {
     format!(in alloc; "{fault:?}")
 }
 
-// A front, some copies of a piece with a comma between two, and an end.
+// Which reader a row is for.
+#[derive(Clone, Copy)]
+enum Reader {
+    Notebook,
+    Manifest,
+    Inputs,
+}
+
+// What a reader gives.
+fn outcome(alloc: Global, reader: Reader, text: &str) -> Result<String, AllocError> {
+    match reader {
+        Reader::Notebook => notebook(alloc, text),
+        Reader::Manifest => manifest(alloc, text),
+        Reader::Inputs => input(alloc, text),
+    }
+}
+
+// A front, some copies of a piece, each with its number before it where that is wanted, and an end.
 fn repeated(
     alloc: Global,
-    front: &str,
-    piece: &str,
-    count: usize,
-    end: &str,
+    (front, piece, end): (&str, &str, &str),
+    numbered: bool,
+    count: u32,
 ) -> Result<String, AllocError> {
     let mut text = String::from_str(alloc, front)?;
     for place in 0..count {
-        if place > 0 {
-            text.push_str(",")?;
+        if numbered {
+            text.push_str(format!(in alloc; "{place}")?.as_str())?;
         }
         text.push_str(piece)?;
     }
@@ -310,77 +326,65 @@ fn inputs_are_read_or_refused(rt: HostRuntime) -> Result<(), Fail> {
     Ok(())
 }
 
+// At each limit the next refusal of the file comes, and past it the count.
 #[test]
 fn limits_are_kept(rt: HostRuntime) -> Result<(), Fail> {
-    let alloc = rt.alloc();
-    let code = r#"{"cell_type":"code","source":""}"#;
-    for (count, want) in [(64, true), (65, false)] {
-        let text = repeated(
-            alloc,
-            r#"{"nbformat":4,"cells":[{"cell_type":"raw"},"#,
-            code,
-            count,
-            "]}",
-        )?;
-        let found = notebook(alloc, text.as_str())?;
-        assert_eq!(rt;
-            found.as_str() == "TooMany { what: CodeCells, count: 65 }",
-            !want,
-            "{count} cells"
-        );
-    }
-    for (count, want) in [(65536, true), (65537, false)] {
-        let mut text = String::from_str(
-            alloc,
-            r#"{"nbformat":4,"cells":[{"cell_type":"code","source":["#,
-        )?;
-        text.push_str("\"")?;
-        for _ in 0..count {
-            text.push_str("x")?;
-        }
-        text.push_str(r#""]},7]}"#)?;
-        let found = notebook(alloc, text.as_str())?;
-        let refused = if want {
-            "BadCell { index: 2 }"
-        } else {
-            "TooMany { what: CellBytes, count: 65537 }"
-        };
-        assert_eq!(rt; found.as_str(), refused);
-    }
-    for (letters, want) in [(64, true), (65, false)] {
-        let mut text = String::from_str(alloc, r#"{"versions":[{"notebook":"a","name":""#)?;
-        for _ in 0..letters {
-            text.push_str("p")?;
-        }
-        text.push_str("\"}]}")?;
-        let found = manifest(alloc, text.as_str())?;
-        assert_eq!(rt;
-            found.as_str() == "BadVersion { index: 1 }",
-            !want,
-            "{letters} letters"
-        );
-    }
-    let versions = repeated(alloc, r#"{"versions":["#, "7", 65, "]}")?;
-    assert_eq!(rt;
-        manifest(alloc, versions.as_str())?.as_str(),
-        "TooMany { what: Versions, count: 65 }"
+    let cells = (
+        r#"{"nbformat":4,"cells":[{"cell_type":"raw"}"#,
+        r#",{"cell_type":"code","source":""}"#,
+        "]}",
     );
-    let versions = repeated(alloc, r#"{"versions":["#, "7", 64, "]}")?;
-    assert_eq!(rt;
-        manifest(alloc, versions.as_str())?.as_str(),
-        "BadVersion { index: 1 }"
+    let source = (
+        r#"{"nbformat":4,"cells":[{"cell_type":"code","source":[""#,
+        "x",
+        r#""]},7]}"#,
     );
-    for (count, want) in [
-        (255, "Some(Int(1))"),
-        (256, "TooMany { what: Inputs, count: 257 }"),
+    let name = (r#"{"versions":[{"notebook":"a","name":""#, "p", r#""},7]}"#);
+    let versions = (r#"{"versions":["#, ",7", "]}");
+    let inputs = (r#"{"n":1,"m"#, r#"":2,"m"#, r#"":{}}"#);
+    for (reader, parts, numbered, count, want) in [
+        (
+            Reader::Notebook,
+            cells,
+            false,
+            65,
+            "TooMany { what: CodeCells, count: 65 }",
+        ),
+        (
+            Reader::Notebook,
+            source,
+            false,
+            65536,
+            "BadCell { index: 2 }",
+        ),
+        (
+            Reader::Notebook,
+            source,
+            false,
+            65537,
+            "TooMany { what: CellBytes, count: 65537 }",
+        ),
+        (Reader::Manifest, name, false, 64, "BadVersion { index: 2 }"),
+        (Reader::Manifest, name, false, 65, "BadVersion { index: 1 }"),
+        (Reader::Manifest, versions, false, 64, "NotJson"),
+        (
+            Reader::Inputs,
+            inputs,
+            true,
+            254,
+            r#"BadInput { name: "m" }"#,
+        ),
+        (
+            Reader::Inputs,
+            inputs,
+            true,
+            255,
+            "TooMany { what: Inputs, count: 257 }",
+        ),
     ] {
-        let mut text = String::from_str(alloc, r#"{"n":1"#)?;
-        for place in 0..count {
-            text.push_str(format!(in alloc; ",\"n{place}\":2")?.as_str())?;
-        }
-        text.push_str("}")?;
-        let found = input(alloc, text.as_str())?;
-        assert_eq!(rt; found.as_str(), want);
+        let text = repeated(rt.alloc(), parts, numbered, count)?;
+        let found = outcome(rt.alloc(), reader, text.as_str())?;
+        assert_eq!(rt; found.as_str(), want, "{count} copies");
     }
     Ok(())
 }
