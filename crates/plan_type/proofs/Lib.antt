@@ -10,3 +10,5 @@ pub mod Reached
 pub mod Listed
 pub mod Widths
 pub mod SoundBelow
+pub mod Lines
+pub mod Writable

@@ -109,17 +109,23 @@ unfolding bare
 induct P step = ind-Plan P (λ d y is.
     step (roll-Plan d) (subst (λ v. AllByRecursion (λ e. P e.rest) v.entries) (is ∙ sym (out-roll-Plan d)) (entries_held P y.entries)))
 
-pub under_parts : (children : ℕ → List ℕ) (p : Plan) → every-Plan (LayerOrders children) p → LayerOrders children (out-Plan p) × AllByRecursion (λ e. every-Plan (LayerOrders children) e.rest) (entries_of p)
+-- a fact of each layer: of the plan's own, and of its entries' plans
+pub every_parts : (Q : Plan-F Plan → Type 0) (p : Plan) → every-Plan Q p → Q (out-Plan p) × AllByRecursion (λ e. every-Plan Q e.rest) (entries_of p)
 unfolding bare
-under_parts children p h = (
-  every_here-Plan (LayerOrders children) p h,
-  (let (y, is) = every_held-Plan (LayerOrders children) p h in
-      subst (λ v. AllByRecursion (λ e. every-Plan (LayerOrders children) e.rest) v.entries) is (entries_held (every-Plan (LayerOrders children)) y.entries)),
+every_parts Q p h = (
+  every_here-Plan Q p h,
+  (let (y, is) = every_held-Plan Q p h in
+      subst (λ v. AllByRecursion (λ e. every-Plan Q e.rest) v.entries) is (entries_held (every-Plan Q) y.entries)),
 )
 
-pub under_made : (children : ℕ → List ℕ) (p : Plan) → LayerOrders children (out-Plan p) → AllByRecursion (λ e. every-Plan (LayerOrders children) e.rest) (entries_of p) → every-Plan (LayerOrders children) p
+pub every_from : (Q : Plan-F Plan → Type 0) (p : Plan) → Q (out-Plan p) → AllByRecursion (λ e. every-Plan Q e.rest) (entries_of p) → every-Plan Q p
 unfolding bare
-under_made children p here each =
-    let (ys, is) = entries_made (every-Plan (LayerOrders children)) (entries_of p) each in
-    subst (every-Plan (LayerOrders children)) (roll-out-Plan p)
-    (every_made-Plan (LayerOrders children) (out-Plan p) (record { entries = ys }) (ap (λ l. record { entries = l }) is) here)
+every_from Q p here each =
+    let (ys, is) = entries_made (every-Plan Q) (entries_of p) each in
+    subst (every-Plan Q) (roll-out-Plan p) (every_made-Plan Q (out-Plan p) (record { entries = ys }) (ap (λ l. record { entries = l }) is) here)
+
+pub under_parts : (children : ℕ → List ℕ) (p : Plan) → every-Plan (LayerOrders children) p → LayerOrders children (out-Plan p) × AllByRecursion (λ e. every-Plan (LayerOrders children) e.rest) (entries_of p)
+under_parts children = every_parts (LayerOrders children)
+
+pub under_made : (children : ℕ → List ℕ) (p : Plan) → LayerOrders children (out-Plan p) → AllByRecursion (λ e. every-Plan (LayerOrders children) e.rest) (entries_of p) → every-Plan (LayerOrders children) p
+under_made children = every_from (LayerOrders children)

@@ -3,3 +3,4 @@ pub mod Budget
 pub mod Plan
 pub mod Prices
 pub mod Operations
+pub mod PlanText

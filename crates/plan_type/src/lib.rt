@@ -9,9 +9,11 @@ pub mod costs;
 pub mod operations;
 pub mod plan;
 pub mod row;
+pub mod text;
 
 pub use budget::Budget;
 pub use costs::{Costs, Rows};
 pub use operations::{Operation, Operations};
 pub use plan::{Entries, Entry, Plan};
 pub use row::{Reach, Row};
+pub use text::write_plan;

@@ -10,9 +10,10 @@ use Rattle.star_syntax.specs.declared.token.Token.{Token}
 use Rattle.star_syntax.specs.declared.token.Token.TheVariants as t
 use Rattle.star_lexer.specs.Lexeme.{Lexeme}
 use Rattle.star_lexer.specs.Lexeme as lexeme
-use Rattle.star_lexer.specs.Chars.{Chars, newline, quote, backslash, is_in, is_name_start}
+use Rattle.star_lexer.specs.Chars.{Chars, newline, backslash, is_quote, is_in, is_name_start}
+use Rattle.star_lexer.specs.Flaws.{here, ◌>>=◌}
+use Rattle.star_lexer.specs.Reading.{piece_at, blank_at, mark_at}
 use Rattle.star_lexer.specs.Words.{mark_text, keyword_text}
-use Rattle.star_lexer.specs.Reading.{here, piece_at, blank_at, mark_at, ◌>>=◌}
 use Rattle.star_lexer.specs.Pieces.{IsWritten, IsBlank, IsComment, Spells}
 use Rattle.star_lexer.proofs.Whole.{take_front}
 use Rattle.star_lexer.proofs.Runs.{run_reaches, both_true}
@@ -27,7 +28,7 @@ not_true true e = sym e
 not_true false e = refl
 
 abbrev begins_mark : ℕ → Bool
-begins_mark c = not (c == newline) && (not (c == 32) && (not (c == 9) && (not (c == 35) && (not (c == backslash) && (not (is_name_start c) && (not (is_ascii_digit c) && not (c == quote)))))))
+begins_mark c = not (c == newline) && (not (c == 32) && (not (c == 9) && (not (c == 35) && (not (c == backslash) && (not (is_name_start c) && (not (is_ascii_digit c) && not (is_quote c)))))))
 
 mark_like : (c : ℕ) → begins_mark c ≡ true → IsMarkLike c
 mark_like c h =
@@ -46,7 +47,7 @@ pub record Head (s : Chars) : Type 0 where
   pub whole : s ≡ c ∷ cs
   pub like : IsMarkLike c
 
-mark_head : (x : Mark) → Head (mark_text x)
+pub mark_head : (x : Mark) → Head (mark_text x)
 mark_head m.Plus = record { c = 43; cs = []; whole = refl; like = mark_like 43 refl }
 mark_head m.Minus = record { c = 45; cs = []; whole = refl; like = mark_like 45 refl }
 mark_head m.Star = record { c = 42; cs = []; whole = refl; like = mark_like 42 refl }

@@ -1,9 +1,10 @@
 -- The turns of the loop over a text's content.
-use Rattle.std.proofs.lemmas.List.{drop-drop, get_or-drop}
-use Rattle.std.proofs.Common.{length-drop, get_or, ne_eqb, ℕ, ◌≡◌, zero, suc, ◌+◌, ◌-◌, ◌<◌, ◌≤◌, true, false, ◌==◌, [], ◌∷◌, ◌++◌, length, drop, Ok, Err, refl, sym, ap, ◌∙◌, append_assoc, arith, zero-add, add-zero}
-use Rattle.star_lexer.specs.Chars.{Chars, quote}
-use Rattle.star_lexer.specs.Lengths.{far}
-use Rattle.star_lexer.specs.Reading.{Inside, content, literal, longer, before, blamed, part_at, first, rest}
+use Rattle.std.proofs.lemmas.List.{drop-drop}
+use Rattle.std.proofs.Common.{length-drop, ℕ, ◌≡◌, zero, suc, ◌+◌, ◌-◌, ◌<◌, ◌≤◌, true, false, [], ◌∷◌, ◌++◌, length, drop, Ok, Err, refl, sym, ap, ◌∙◌, append_assoc, arith, zero-add}
+use Rattle.star_lexer.specs.declared.literal.Style.{Style}
+use Rattle.star_lexer.specs.declared.literal.TextFault.{TextFault}
+use Rattle.star_lexer.specs.Chars.{Chars}
+use Rattle.star_lexer.specs.Texts.{Inside, far, content, literal, longer, before, blamed, part_at, closes, delimiter, opening, style_at}
 
 pub far-longer : {A : Type 0} (n : ℕ) (r : Inside A) → longer (far n r) ≡ far (suc n) r
 far-longer n (Ok p) = let e : suc (n + p.1) ≡ suc n + p.1 = omega arith in ap (λ m. Ok (p.0, m)) e
@@ -30,59 +31,42 @@ before-nil (Ok p) = refl
 before-nil (Err e) = refl
 
 -- the characters that are left of a part are passed
-content_skip : (n : ℕ) (text : Chars) → n ≤ length text → content n text ≡ far n (content 0 (drop n text))
-content_skip zero text within = far-zero (content 0 text)
-content_skip (suc n) [] within = absurd (omega arith)
-content_skip (suc n) (c ∷ cs) within = ap longer (content_skip n cs (omega arith)) ∙ far-longer n (content 0 (drop n cs))
+content_skip : (q : Style) (n : ℕ) (text : Chars) → n ≤ length text → content q n text ≡ far n (content q 0 (drop n text))
+content_skip q zero text within = far-zero (content q 0 text)
+content_skip q (suc n) [] within = absurd (omega arith)
+content_skip q (suc n) (c ∷ cs) within = ap longer (content_skip q n cs (omega arith)) ∙ far-longer n (content q 0 (drop n cs))
 
 -- one part, and then the rest
-pub content_turn : (text v : Chars) (n : ℕ) → 0 < length text → (first text == quote) ≡ false → 0 < n → n ≤ length text → part_at text ≡ Ok (v, n) → content 0 text ≡ before v (far n (content 0 (drop n text)))
-content_turn [] v n some plain long within read = absurd (omega arith)
-content_turn (c ∷ cs) v n some plain long within read =
+pub content_turn : (q : Style) (text v : Chars) (n : ℕ) → 0 < length text → closes q text ≡ false → 0 < n → n ≤ length text → part_at q text ≡ Ok (v, n) → content q 0 text ≡ before v (far n (content q 0 (drop n text)))
+content_turn q [] v n some unclosed long within read = absurd (omega arith)
+content_turn q (c ∷ cs) v n some unclosed long within read =
     let e : n ≡ suc (n - 1) = omega arith in
-    let skip = ap longer (content_skip (n - 1) cs (omega arith)) ∙ far-longer (n - 1) (content 0 (drop (n - 1) cs)) in
-    let whole : content 0 (c ∷ cs) ≡ before v (longer (content (n - 1) cs)) = rw plain (rw read refl) in
-    whole ∙ ap (before v) (skip ∙ ap (λ m. far m (content 0 (drop m (c ∷ cs)))) (sym e))
+    let skip = ap longer (content_skip q (n - 1) cs (omega arith)) ∙ far-longer (n - 1) (content q 0 (drop (n - 1) cs)) in
+    let whole : content q 0 (c ∷ cs) ≡ before v (longer (content q (n - 1) cs)) = rw unclosed (rw read refl) in
+    whole ∙ ap (before v) (skip ∙ ap (λ m. far m (content q 0 (drop m (c ∷ cs)))) (sym e))
 
-pub content_refuses : (text : Chars) (k : _) → 0 < length text → (first text == quote) ≡ false → part_at text ≡ Err k → content 0 text ≡ Err (k, 0)
-content_refuses [] k some plain read = absurd (omega arith)
-content_refuses (c ∷ cs) k some plain read = rw plain (rw read refl)
+pub content_refuses : (q : Style) (text : Chars) (k : TextFault) → 0 < length text → closes q text ≡ false → part_at q text ≡ Err k → content q 0 text ≡ Err (k, 0)
+content_refuses q [] k some unclosed read = absurd (omega arith)
+content_refuses q (c ∷ cs) k some unclosed read = rw unclosed (rw read refl)
 
-pub content_ends : (text : Chars) → 0 < length text → (first text == quote) ≡ true → content 0 text ≡ Ok ([], 1)
-content_ends [] some plain = absurd (omega arith)
-content_ends (c ∷ cs) some plain = rw plain refl
-
-pub first_is : (xs : Chars) → first xs ≡ get_or xs 0 0
-first_is [] = refl
-first_is (x ∷ xs) = refl
-
-pub first_drop : (n : ℕ) (xs : Chars) → first (drop n xs) ≡ get_or xs n 0
-first_drop n xs = first_is (drop n xs) ∙ get_or-drop n xs 0 0 ∙ ap (λ i. get_or xs i 0) (add-zero n)
-
-same_default : (i : ℕ) (xs : Chars) (d e : ℕ) → i < length xs → get_or xs i d ≡ get_or xs i e
-same_default i [] d e room = absurd (omega arith)
-same_default zero (x ∷ xs) d e room = refl
-same_default (suc i) (x ∷ xs) d e room = same_default i xs d e (omega arith)
+pub content_ends : (q : Style) (text : Chars) → 0 < length text → closes q text ≡ true → content q 0 text ≡ Ok ([], length (delimiter q))
+content_ends q [] some closed = absurd (omega arith)
+content_ends q (c ∷ cs) some closed = rw closed refl
 
 -- one turn of the loop
-pub literal_turn : (text points : Chars) (at n c x : ℕ) → literal text ≡ blamed (before points (far at (content 0 (drop at text)))) → at < length text → x ≡ get_or text at x → (x ≡ quote → ⊥) → 0 < n → n ≤ length (drop at text) → part_at (drop at text) ≡ Ok (c ∷ [], n) → literal text ≡ blamed (before (points ++ c ∷ []) (far (at + n) (content 0 (drop (at + n) text))))
-literal_turn text points at n c x so_far room is plain some within read =
+pub literal_turn : (q : Style) (text points v : Chars) (at n : ℕ) → literal text ≡ blamed (before points (far at (content q 0 (drop at text)))) → at < length text → closes q (drop at text) ≡ false → 0 < n → n ≤ length (drop at text) → part_at q (drop at text) ≡ Ok (v, n) → literal text ≡ blamed (before (points ++ v) (far (at + n) (content q 0 (drop (at + n) text))))
+literal_turn q text points v at n so_far room unclosed some within read =
     let here : 0 < length (drop at text) = omega (arith, length-drop at text) in
-    let turn = content_turn (drop at text) (c ∷ []) n here (ap (λ y. y == quote) (first_drop at text ∙ same_default at text 0 x room ∙ sym is) ∙ ne_eqb _ _ plain) some within read in
+    let turn = content_turn q (drop at text) v n here unclosed some within read in
     so_far ∙ ap blamed
     (ap (λ r. before points (far at r)) turn
-    ∙ ap (before points) (far-before at (c ∷ []) _)
-    ∙ before-before points (c ∷ []) _
-    ∙ ap (before (points ++ c ∷ [])) (far-far at n _ ∙ ap (λ xs. far (at + n) (content 0 xs)) (drop-drop n at text)))
+    ∙ ap (before points) (far-before at v _)
+    ∙ before-before points v _
+    ∙ ap (before (points ++ v)) (far-far at n _ ∙ ap (λ xs. far (at + n) (content q 0 xs)) (drop-drop n at text)))
 
-rest_is : (xs : Chars) → 0 < length xs → rest xs ≡ drop 1 xs
-rest_is [] some = absurd (omega arith)
-rest_is (x ∷ xs) some = refl
-
-pub literal_begins : (text points : Chars) → points ≡ [] → 0 < length text → literal text ≡ blamed (before points (far 1 (content 0 (drop 1 text))))
+pub literal_begins : (q : Style) (text points : Chars) (n : ℕ) → q ≡ style_at text → n ≡ length (opening q) → points ≡ [] → literal text ≡ blamed (before points (far n (content q 0 (drop n text))))
 unfolding literal
-literal_begins text points none some =
-    ap blamed
-    (ap (λ xs. longer (content 0 xs)) (rest_is text some)
-    ∙ ap longer (far-zero (content 0 (drop 1 text))) ∙ far-longer 0 (content 0 (drop 1 text))
-    ∙ before-nil _ ∙ ap (λ v. before v (far 1 (content 0 (drop 1 text)))) (sym none))
+literal_begins q text points n seen long none =
+    ap (λ q. blamed (far (length (opening q)) (content q 0 (drop (length (opening q)) text)))) (sym seen)
+    ∙ ap (λ n. blamed (far n (content q 0 (drop n text)))) (sym long)
+    ∙ ap blamed (before-nil _ ∙ ap (λ v. before v (far n (content q 0 (drop n text)))) (sym none))

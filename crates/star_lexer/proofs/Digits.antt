@@ -6,7 +6,7 @@ use Rattle.std.proofs.lemmas.Bool.Decides.{nat_tests}
 use Rattle.star_lexer.specs.declared.chars.Class.{Class}
 use Rattle.star_lexer.specs.declared.chars.Class.TheVariants as class
 use Rattle.star_lexer.specs.Chars.{Chars, is_in, is_name_start}
-use Rattle.star_lexer.specs.Reading.{numeral, decimal, based, is_prefixed}
+use Rattle.star_lexer.specs.Numbers.{numeral, decimal, based, is_prefixed}
 use Rattle.star_lexer.proofs.Runs.{both_true}
 
 pub digit_not_start : (c : ℕ) → is_ascii_digit c ≡ true → is_name_start c ≡ false
@@ -42,14 +42,14 @@ some_test : (b : Bool) (x y : ℕ) → cond b (Some x) None ≡ Some y → b ≡
 some_test true x y e = refl
 some_test false x y e = cc
 
-based_word : (a b : ℕ) (digit : Class) (s : Chars) → is_in class.Name a ≡ true → is_in class.Name b ≡ true → ((c : ℕ) → is_in digit c ≡ true → is_in class.Name c ≡ true) → is_prefixed a b s ≡ true → list_all (is_in digit) (drop 2 s) ≡ true → list_all (is_in class.Name) s ≡ true
-based_word a b digit [] na nb wider h all = refl
-based_word a b digit (c ∷ []) na nb wider h all = prefix_alone c a b h
-based_word a b digit (c ∷ d ∷ ds) na nb wider h all =
+based_word : (a b : ℕ) (radix : Class) (s : Chars) → is_in class.Name a ≡ true → is_in class.Name b ≡ true → ((c : ℕ) → is_in radix c ≡ true → is_in class.Name c ≡ true) → is_prefixed a b s ≡ true → list_all (is_in radix) (drop 2 s) ≡ true → list_all (is_in class.Name) s ≡ true
+based_word a b radix [] na nb wider h all = refl
+based_word a b radix (c ∷ []) na nb wider h all = prefix_alone c a b h
+based_word a b radix (c ∷ d ∷ ds) na nb wider h all =
     let (p, q) = both_true (c == 48) (d == a || d == b) h in
     let here : is_in class.Name c ≡ true = ap (is_in class.Name) (eqb-true c 48 p) in
     let next : is_in class.Name d ≡ true = either_of (is_in class.Name) d a b na nb q in
-    rw here (rw next (list_all_wider (is_in digit) (is_in class.Name) ds wider all))
+    rw here (rw next (list_all_wider (is_in radix) (is_in class.Name) ds wider all))
 
 by_base : (s : Chars) (n : ℕ) (b d : Bool) → is_prefixed 120 88 s ≡ b → is_prefixed 111 79 s ≡ d → cond b (based class.Hex 16 (drop 2 s)) (cond d (based class.Octal 8 (drop 2 s)) (decimal s)) ≡ Some n → list_all (is_in class.Name) s ≡ true
 unfolding based decimal

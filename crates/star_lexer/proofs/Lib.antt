@@ -3,7 +3,10 @@ pub mod Numbers
 pub mod Scans
 pub mod Whole
 pub mod Runs
+pub mod Styles
+pub mod Escapes
 pub mod Parts
+pub mod Literals
 pub mod MarkLemmas
 pub mod Digits
 pub mod Places
@@ -12,5 +15,6 @@ pub mod Begins
 pub mod Written
 pub mod Laws
 pub mod Once
+pub mod Passed
 pub mod Nested
 pub mod Lined

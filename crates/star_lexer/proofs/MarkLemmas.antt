@@ -14,8 +14,8 @@ use Rattle.star_lexer.specs.declared.reserved.TheConstants.{RESERVED}
 use Rattle.star_lexer.specs.declared.reserved.Reserved.{Reserved}
 use Rattle.star_lexer.specs.declared.reserved.Reserved.TheVariants as r
 use Rattle.star_lexer.specs.Chars.{Chars}
-use Rattle.star_lexer.specs.Words.{lookup, keyword_of, keyword_text, reserved_of, reserved_text, mark_of, mark_text}
 use Rattle.star_lexer.specs.Reading.{mark_at, mark_len, or_else}
+use Rattle.star_lexer.specs.Words.{lookup, keyword_of, keyword_text, reserved_of, reserved_text, mark_of, mark_text}
 use Rattle.star_lexer.proofs.Whole.{take_front}
 
 found_by : {X : Type 0} (text : X → Chars) (y : X) (w : Chars) (other : Option X) (x : X) (b : Bool) → bytes_eq (text y) w ≡ b → cond b (Some y) other ≡ Some x → (other ≡ Some x → text x ≡ w) → text x ≡ w

@@ -4,7 +4,7 @@ use Rattle.std.proofs.lemmas.Nat.{mul-le}
 use Rattle.std.specs.Char.{digit_value}
 use Rattle.std.specs.Str.Parse.{digits_value, digits_value_after}
 use Rattle.star_lexer.specs.declared.error.LexKind.TheVariants.{WideNumber}
-use Rattle.star_lexer.specs.Reading.{fitting, widest}
+use Rattle.star_lexer.specs.Numbers.{fitting, widest}
 
 pub grows : (radix n : ℕ) (ds : List ℕ) → 0 < radix → n ≤ digits_value_after radix n ds
 grows radix n [] some = omega arith

@@ -1,8 +1,7 @@
 -- The longest run at the front of a text.
 use Rattle.std.proofs.Common.{◌≡◌, ℕ, suc, ◌+◌, ◌≤◌, ◌&&◌, ◌==◌, Bool, true, false, cond, ◌⊎◌, inl, inr, [], ◌∷◌, ◌++◌, length, take, drop, refl, sym, ap, ◌∙◌, ne_eqb, arith}
 use Rattle.std.specs.List.{prefix_len, list_all}
-use Rattle.star_lexer.specs.Chars.{Chars}
-use Rattle.star_lexer.specs.Reading.{first}
+use Rattle.star_lexer.specs.Chars.{Chars, first}
 
 pub both_true : (a b : Bool) → (a && b) ≡ true → (a ≡ true) × (b ≡ true)
 both_true true b e = (refl, e)

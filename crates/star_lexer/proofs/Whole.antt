@@ -8,11 +8,11 @@ use Rattle.star_syntax.specs.declared.token.Spanned.{Spanned}
 use Rattle.star_syntax.specs.declared.token.Token.{Token}
 use Rattle.star_lexer.specs.Lexeme.{Lexeme}
 use Rattle.star_lexer.specs.Lexeme as lexeme
-use Rattle.star_lexer.specs.Chars.{Chars, newline, newlines}
+use Rattle.star_lexer.specs.Chars.{Chars, newline, newlines, first}
+use Rattle.star_lexer.specs.Reading.{piece_at, blank_at, token_at}
 use Rattle.star_lexer.specs.Layout.{spanned, settle, bracket, advanced, passed, ended, line_end, ends}
 use Rattle.star_lexer.specs.Pieces.{Piece, piece, spelled, Stands, IsFaulty}
-use Rattle.star_lexer.specs.Reading.{first, piece_at, blank_at, token_at}
-use Rattle.star_lexer.specs.Reading as reading
+use Rattle.star_lexer.specs.Flaws as reading
 use Rattle.star_lexer.specs.Scan.{Lexed, Turn, turn, scan, with_front, at, at_place, ◌>>=◌}
 use Rattle.star_lexer.specs.Tokens.{IsCut, Laid, step, step_by, behind, lay, TokensFrom, FirstFaultFrom, FaultAt, faulty_token}
 use Rattle.star_lexer.proofs.Scans.{scan_turn, front-front, front-nil}

@@ -8,8 +8,7 @@ use Rattle.star_syntax.specs.declared.token.Mark.TheVariants as m
 use Rattle.star_syntax.specs.declared.token.Token.{Token}
 use Rattle.star_syntax.specs.declared.token.Token.TheVariants as t
 use Rattle.star_syntax.specs.declared.token.Spanned.{Spanned}
-use Rattle.star_lexer.specs.Chars.{Chars, backslash, newlines}
-use Rattle.star_lexer.specs.Reading.{first}
+use Rattle.star_lexer.specs.Chars.{Chars, backslash, newlines, first}
 
 abbrev pub spanned : Token → ℕ → Spanned
 spanned token line = record { token = token; line = line }

@@ -1,9 +1,11 @@
 pub mod Chars
 pub mod Words
 pub mod Lexeme
+pub mod Flaws
+pub mod Numbers
+pub mod Texts
 pub mod Reading
 pub mod Verdict
-pub mod Lengths
 pub mod Layout
 pub mod Settles
 pub mod Scan

@@ -1,6 +1,6 @@
 -- What a piece of a text is: white space, a comment, a newline or a token, with how it is written.
-use Rattle.std.specs.Prelude.{Bool, ◌||◌, ◌+◌, ◌==◌, ◌≡◌, ◌≢◌, ℕ, ◌<◌, ◌≤◌, true, false, ◌⊎◌, List, [], ◌∷◌, ◌++◌, length, Some, None, pos}
-use Rattle.std.specs.List.{list_all, flat_map, AllByRecursion}
+use Rattle.std.specs.Prelude.{Bool, ◌||◌, ◌+◌, ◌≡◌, ◌≢◌, ℕ, ◌<◌, ◌≤◌, true, false, ◌⊎◌, List, [], ◌∷◌, ◌++◌, length, Some, None, pos}
+use Rattle.std.specs.List.{list_all, flat_map}
 use Rattle.std.specs.Char.{is_ascii_digit}
 use Rattle.star_lexer.specs.declared.chars.Class.TheVariants as class
 use Rattle.star_lexer.specs.declared.error.LexKind.TheVariants.{BadCharacter, OpenString, BadEscape, BadNumber, WideNumber, ReservedWord}
@@ -10,9 +10,12 @@ use Rattle.star_syntax.specs.declared.token.Token.{Token}
 use Rattle.star_syntax.specs.declared.token.Token.TheVariants as t
 use Rattle.star_lexer.specs.Lexeme.{Lexeme}
 use Rattle.star_lexer.specs.Lexeme as lexeme
-use Rattle.star_lexer.specs.Chars.{Chars, newline, quote, backslash, is_name_start, is_in}
+use Rattle.star_lexer.specs.Flaws.{Flaw}
+use Rattle.star_lexer.specs.declared.literal.Style.{Style}
+use Rattle.star_lexer.specs.Chars.{Chars, newline, backslash, letter_r, is_quote, is_name_start, is_in, first}
+use Rattle.star_lexer.specs.Numbers.{numeral, widest}
+use Rattle.star_lexer.specs.Texts.{delimiter, opening, closes, escape}
 use Rattle.star_lexer.specs.Words.{keyword_text, reserved_text, mark_text}
-use Rattle.star_lexer.specs.Reading.{Flaw, first, numeral, widest, escape}
 
 pub record Piece : Type 0 where
   pub lexeme : Lexeme
@@ -39,14 +42,19 @@ pub record Part : Type 0 where
   pub spelling : Chars
   pub value : Chars
 
-abbrev pub IsPlain : Part → Type 0
-IsPlain p = (c : ℕ) × (c ≢ quote) × (c ≢ backslash) × (c ≢ newline) × (p.spelling ≡ c ∷ []) × (p.value ≡ c ∷ [])
+-- it stands for itself: no backslash, and a newline only in a text with three quotes
+abbrev pub IsPlain : Style → Part → Type 0
+IsPlain q p = (c : ℕ) × (c ≢ backslash) × (q.is_wide ≡ false → c ≢ newline) × (p.spelling ≡ c ∷ []) × (p.value ≡ c ∷ [])
 
-abbrev pub IsEscape : Part → Type 0
-IsEscape p = (c v : ℕ) × (escape c ≡ Some v) × (p.spelling ≡ backslash ∷ c ∷ []) × (p.value ≡ v ∷ [])
+abbrev pub IsEscape : Style → Part → Type 0
+IsEscape q p = (w v : Chars) × (q.is_raw ≡ false) × (escape w ≡ Some v) × (p.spelling ≡ backslash ∷ w) × (p.value ≡ v)
 
-abbrev pub IsPart : Part → Type 0
-IsPart p = IsPlain p ⊎ IsEscape p
+-- in a raw text a backslash and the character after it stand for themselves
+abbrev pub IsKept : Style → Part → Type 0
+IsKept q p = (c : ℕ) × (q.is_raw ≡ true) × (p.spelling ≡ backslash ∷ c ∷ []) × (p.value ≡ backslash ∷ c ∷ [])
+
+abbrev pub IsPart : Style → Part → Type 0
+IsPart q p = IsPlain q p ⊎ (IsEscape q p ⊎ IsKept q p)
 
 abbrev pub parts_spelling : List Part → Chars
 parts_spelling = flat_map (λ p. p.spelling)
@@ -54,10 +62,18 @@ parts_spelling = flat_map (λ p. p.spelling)
 abbrev pub parts_value : List Part → Chars
 parts_value = flat_map (λ p. p.value)
 
+-- parts of a text before its rest: the closing quotes are at none of them
+abbrev pub AreParts : Style → List Part → Chars → Type 0
+AreParts q [] rest = Unit {0}
+AreParts q (p ∷ ps) rest = IsPart q p × (closes q (p.spelling ++ (parts_spelling ps ++ rest)) ≡ false) × AreParts q ps rest
+
+-- opening quotes, parts, and the first closing quotes
 pub record IsText (s v : Chars) : Type 0 where
+  pub style : Style
+  pub quoted : is_quote style.quote ≡ true
   pub parts : List Part
-  pub each : AllByRecursion IsPart parts
-  pub whole : s ≡ quote ∷ (parts_spelling parts ++ quote ∷ [])
+  pub each : AreParts style parts (delimiter style)
+  pub whole : s ≡ opening style ++ (parts_spelling parts ++ delimiter style)
   pub value : v ≡ parts_value parts
 
 -- ---- words
@@ -106,9 +122,17 @@ is_word (lexeme.Token (t.Word k)) = true
 is_word (lexeme.Token (t.Int v)) = true
 is_word _ = false
 
+-- two quotes, and an `r` before them or none
+abbrev pub IsEmptyText : ℕ → Chars → Type 0
+IsEmptyText c s = (s ≡ c ∷ c ∷ []) ⊎ (s ≡ letter_r ∷ c ∷ c ∷ [])
+
 pub record Apart (p : Piece) (rest : Chars) : Type 0 where
   -- a word is not directly before a letter, a digit or `_`
   pub word : is_word p.lexeme ≡ true → is_in class.Name (first rest) ≡ false
+  -- an `r` directly before a quote begins a text
+  pub raw : p.spelling ≡ letter_r ∷ [] → is_quote (first rest) ≡ false
+  -- two quotes directly before a third open a text with three
+  pub doubled : (c : ℕ) → is_quote c ≡ true → IsEmptyText c p.spelling → first rest ≢ c
 
 -- the piece is the longest that begins at its place
 pub record Stands (p : Piece) (rest : Chars) : Type 0 where
@@ -131,7 +155,7 @@ pub record IsLongWord (w more : Chars) : Type 0 where
 
 -- with such a character begins a word, a number or a text
 abbrev pub is_opening : ℕ → Bool
-is_opening c = is_name_start c || (is_ascii_digit c || c == quote)
+is_opening c = is_name_start c || (is_ascii_digit c || is_quote c)
 
 -- no piece begins here
 pub record IsStray (text : Chars) : Type 0 where
@@ -139,8 +163,19 @@ pub record IsStray (text : Chars) : Type 0 where
   pub opening : is_opening (first text) ≡ false
   pub none : (q : Piece) (more : Chars) → IsPiece q → text ≢ q.spelling ++ more
 
-abbrev pub Stops : Chars → Type 0
-Stops rest = (rest ≡ []) ⊎ ((rest ≡ backslash ∷ []) ⊎ (first rest ≡ newline))
+-- a text cannot go on here
+abbrev pub Stops : Style → Chars → Type 0
+Stops q rest = (rest ≡ []) ⊎ (((q.is_wide ≡ false) × (first rest ≡ newline)) ⊎ ((q.is_raw ≡ true) × (rest ≡ backslash ∷ [])))
+
+-- no escape begins here
+abbrev pub NoEscape : Chars → Type 0
+NoEscape text = (w more : Chars) → text ≡ w ++ more → escape w ≡ None
+
+-- opening quotes, parts, and what follows them; no closing quotes
+pub record IsBegun (q : Style) (parts : List Part) (more text : Chars) : Type 0 where
+  pub quoted : is_quote q.quote ≡ true
+  pub each : AreParts q parts more
+  pub whole : text ≡ opening q ++ (parts_spelling parts ++ more)
 
 -- what is wrong with the token that begins here, and how many characters stand before it
 abbrev pub IsFaulty : Flaw → Chars → Type 0
@@ -148,6 +183,6 @@ IsFaulty (BadCharacter, n) text = IsStray text × (n ≡ 0)
 IsFaulty (ReservedWord, n) text = (w more : Chars) × (r : Reserved) × (text ≡ w ++ more) × IsLongWord w more × (reserved_text r ≡ w) × (n ≡ 0)
 IsFaulty (BadNumber, n) text = (w more : Chars) × (text ≡ w ++ more) × IsDigits w more × (numeral w ≡ None) × (n ≡ 0)
 IsFaulty (WideNumber, n) text = (w more : Chars) × (v : ℕ) × (text ≡ w ++ more) × IsDigits w more × (numeral w ≡ Some v) × (widest < v) × (n ≡ 0)
-IsFaulty (BadEscape, n) text = (parts : List Part) × (c : ℕ) × (more : Chars) × AllByRecursion IsPart parts × (text ≡ quote ∷ (parts_spelling parts ++ backslash ∷ c ∷ more)) × (escape c ≡ None) × (n ≡ 1 + length (parts_spelling parts))
-IsFaulty (OpenString, n) text = (parts : List Part) × (more : Chars) × AllByRecursion IsPart parts × (text ≡ quote ∷ (parts_spelling parts ++ more)) × Stops more × (n ≡ 0)
+IsFaulty (BadEscape, n) text = (q : Style) × (parts : List Part) × (more : Chars) × IsBegun q parts (backslash ∷ more) text × (q.is_raw ≡ false) × NoEscape more × (n ≡ length (opening q) + length (parts_spelling parts))
+IsFaulty (OpenString, n) text = (q : Style) × (parts : List Part) × (more : Chars) × IsBegun q parts more text × Stops q more × (n ≡ 0)
 IsFaulty (_, n) text = ⊥

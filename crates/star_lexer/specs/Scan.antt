@@ -7,9 +7,10 @@ use Rattle.star_lexer.specs.declared.error.Fault.{Fault}
 use Rattle.star_lexer.specs.declared.error.Fault.TheVariants as f
 use Rattle.star_lexer.specs.declared.layout.Layout.{Layout}
 use Rattle.star_syntax.specs.declared.token.Spanned.{Spanned}
-use Rattle.star_lexer.specs.Chars.{Chars, newline, newlines}
+use Rattle.star_lexer.specs.Chars.{Chars, newline, newlines, first}
+use Rattle.star_lexer.specs.Flaws.{Flaw}
+use Rattle.star_lexer.specs.Reading.{blank_at, token_at}
 use Rattle.star_lexer.specs.Layout.{spanned, passed, ended, line_end, settle, bracket, advanced, ends}
-use Rattle.star_lexer.specs.Reading.{Flaw, first, blank_at, token_at}
 
 -- a value, or the first fault with its line
 abbrev pub Lexed : Type 0 → Type 0

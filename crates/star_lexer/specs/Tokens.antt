@@ -5,12 +5,12 @@ use Rattle.star_lexer.specs.declared.layout.Layout.{Layout}
 use Rattle.star_syntax.specs.declared.token.Spanned.{Spanned}
 use Rattle.star_lexer.specs.Lexeme.{Lexeme}
 use Rattle.star_lexer.specs.Lexeme as lexeme
-use Rattle.star_lexer.specs.Chars.{Chars, newlines}
+use Rattle.star_lexer.specs.Chars.{Chars, newlines, passed_over}
+use Rattle.star_lexer.specs.Flaws.{Flaw}
 use Rattle.star_syntax.specs.declared.token.Token.{Token}
 use Rattle.star_syntax.specs.declared.token.Token.TheVariants as t
 use Rattle.star_lexer.specs.Layout.{spanned, start, passed, ended, line_end, settle, bracket, advanced, ends}
 use Rattle.star_lexer.specs.Pieces.{Piece, spelled, Stands, IsFaulty}
-use Rattle.star_lexer.specs.Reading.{Flaw}
 use Rattle.star_lexer.specs.Scan.{Lexed, at, ◌>>=◌}
 
 -- each piece is the longest at its place, before the pieces after it and the rest
@@ -73,11 +73,13 @@ pub record FirstFaultFrom (s : Layout) (text : Chars) (kind : LexKind) (line : �
   pub laid : lay s pieces ≡ Ok (last, given)
   pub fault : FaultAt last rest kind line
 
+-- list is the tokens of the text
 abbrev pub Tokens : Chars → List Spanned → Type 0
-Tokens = TokensFrom start
+Tokens text = TokensFrom start (passed_over text)
 
+-- this is the first fault of the text
 abbrev pub FirstFault : Chars → LexKind → ℕ → Type 0
-FirstFault = FirstFaultFrom start
+FirstFault text = FirstFaultFrom start (passed_over text)
 
 -- the tokens that are written in a text, each with its line
 abbrev pub written_by : Lexeme → ℕ → List Spanned

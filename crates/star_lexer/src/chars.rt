@@ -1,5 +1,5 @@
 //! Classes of characters.
-ghost use Rattle.std.specs.Prelude.{◌≡◌, ◌≤◌, length};
+ghost use Rattle.std.specs.Prelude.{◌≡◌, ◌≤◌, length, take};
 ghost use Rattle.std.specs.List.{prefix_len};
 ghost use Rattle.star_lexer.specs.Chars as spec;
 
@@ -34,6 +34,24 @@ pub fn is_in(class: Class, c: char) -> bool
         Class::Digit => c.is_ascii_digit(),
         Class::Octal => '0' <= c && c <= '7',
         Class::Hex => c.is_ascii_hexdigit(),
+    }
+}
+
+/// A text begins and ends with this character.
+pub fn is_quote(c: char) -> bool
+    ensures { result ≡ spec.is_quote c }
+{
+    c == '"' || c == '\''
+}
+
+/// The first characters, at most so many.
+pub fn front(text: &[char], most: usize) -> &[char]
+    ensures { result.now ≡ take most text.now }
+{
+    if most < text.len() {
+        &text[..most]
+    } else {
+        text
     }
 }
 

@@ -3,7 +3,7 @@ ghost use Rattle.std.specs.Prelude.{◌≡◌, ◌≤◌, ◌<◌, true, pos};
 ghost use Rattle.std.specs.List.{list_all};
 ghost use Rattle.std.specs.Char.{digit_value};
 ghost use Rattle.std.specs.Str.Parse.{digits_value};
-ghost use Rattle.star_lexer.specs.Reading as spec;
+ghost use Rattle.star_lexer.specs.Numbers as spec;
 ghost use Rattle.star_lexer.specs.Chars.{is_in};
 
 use crate::chars::{Class, is_in};
@@ -12,7 +12,8 @@ use crate::error::LexKind;
 /// The widest number that a literal may write: 2^127 - 1.
 const WIDEST: u128 = 170141183460469231731687303715884105727;
 
-fn all_in(class: Class, word: &[char]) -> bool
+/// Each character is in the class.
+pub fn all_in(class: Class, word: &[char]) -> bool
     ensures { result ≡ list_all (is_in class) word.now }
 {
     word.iter().all(|c| is_in(class, *c))
@@ -26,7 +27,7 @@ fn digit(c: char) -> u32
 }
 
 /// The value of these digits, where it is not too wide.
-fn value_of(digits: &[char], radix: u128) -> Result<i128, LexKind>
+pub fn value_of(digits: &[char], radix: u128) -> Result<i128, LexKind>
     requires some { 0 < radix }
     requires few { radix ≤ 16 }
     ensures { spec.fitting (digits_value radix digits.now) ≡ result }
@@ -43,7 +44,7 @@ fn value_of(digits: &[char], radix: u128) -> Result<i128, LexKind>
 }
 
 /// The digits that a prefix announces, where there are some and each is one.
-#[tactic(auto, unfolding(crate::specs::Reading::based))]
+#[tactic(auto, unfolding(crate::specs::Numbers::based))]
 fn based(digit: Class, radix: u128, digits: &[char]) -> Result<i128, LexKind>
     requires some { 0 < radix }
     requires few { radix ≤ 16 }
@@ -57,7 +58,7 @@ fn based(digit: Class, radix: u128, digits: &[char]) -> Result<i128, LexKind>
 }
 
 /// The digits of a decimal number, which has no 0 in front but where it is 0.
-#[tactic(auto, unfolding(crate::specs::Reading::decimal))]
+#[tactic(auto, unfolding(crate::specs::Numbers::decimal))]
 fn decimal(word: &[char]) -> Result<i128, LexKind>
     ensures { spec.fits (spec.decimal word.now) ≡ result }
 {
@@ -69,7 +70,7 @@ fn decimal(word: &[char]) -> Result<i128, LexKind>
 }
 
 /// The number that a whole word writes.
-#[tactic(auto, unfolding(crate::specs::Reading::number, crate::specs::Reading::numeral))]
+#[tactic(auto, unfolding(crate::specs::Numbers::number, crate::specs::Numbers::numeral))]
 pub fn number(word: &[char]) -> Result<i128, LexKind>
     ensures { spec.number word.now ≡ result }
 {

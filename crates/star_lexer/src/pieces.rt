@@ -1,12 +1,13 @@
 //! The piece at the front of a text.
 ghost use Rattle.std.specs.Prelude.{◌≡◌, ◌≤◌, ◌<◌, length, take, Ok, IfOk};
+ghost use Rattle.star_lexer.specs.Flaws as flaws;
 ghost use Rattle.star_lexer.specs.Reading as spec;
 ghost use Rattle.star_lexer.specs.Verdict.{Gives};
 
-use crate::chars::{Class, is_name_start, run_len};
+use crate::chars::{Class, front, is_name_start, run_len};
 use crate::error::{Fault, LexKind};
 use crate::keywords::keyword_of;
-use crate::literal::literal;
+use crate::literal::{is_text_start, literal};
 use crate::marks::{mark_of, mark_text};
 use crate::number::number;
 use crate::reserved::reserved_of;
@@ -26,17 +27,6 @@ pub fn blank_at(text: &[char]) -> usize
         ['#', ..] => run_len(Class::Line, text),
         ['\\', '\n', ..] => 2,
         _ => 0,
-    }
-}
-
-/// The first characters, at most so many.
-pub fn front(text: &[char], most: usize) -> &[char]
-    ensures { result.now ≡ take most text.now }
-{
-    if most < text.len() {
-        &text[..most]
-    } else {
-        text
     }
 }
 
@@ -68,7 +58,7 @@ fn at_start(kind: LexKind) -> Fault
 
 /// The name or keyword that a word is.
 fn word_token(alloc: Global, word: &[char]) -> Result<Token, Fault>
-    ensures { Gives result (spec.here (spec.word_token word.now)) }
+    ensures { Gives result (flaws.here (spec.word_token word.now)) }
 {
     match (keyword_of(word), reserved_of(word)) {
         (Some(keyword), _) => Ok(Token::Word(keyword)),
@@ -85,7 +75,10 @@ pub fn token_at(alloc: Global, text: &[char]) -> Result<(Token, usize), Fault>
     ensures within { IfOk result (λ p. (0 < p.1) × (p.1 ≤ length text.now)) }
 {
     let c = text[0];
-    if is_name_start(c) {
+    if is_text_start(text) {
+        let (value, n) = literal(alloc, text)?;
+        Ok((Token::Text(value), n))
+    } else if is_name_start(c) {
         let n = run_len(Class::Name, text);
         Ok((word_token(alloc, &text[..n])?, n))
     } else if c.is_ascii_digit() {
@@ -94,9 +87,6 @@ pub fn token_at(alloc: Global, text: &[char]) -> Result<(Token, usize), Fault>
             Ok(value) => Ok((Token::Int(value), n)),
             Err(kind) => Err(at_start(kind)),
         }
-    } else if c == '"' {
-        let (value, n) = literal(alloc, text)?;
-        Ok((Token::Text(value), n))
     } else {
         match mark_at(text) {
             Ok((mark, n)) => Ok((Token::Mark(mark), n)),

@@ -1,22 +1,22 @@
 //! The tokens of a text.
-ghost use Rattle.std.specs.Prelude.{◌≡◌, ◌+◌, ◌≤◌, ◌<◌, ◌^◌, ◌++◌, length, OnOk, IfOk, IfSome};
+ghost use Rattle.std.specs.Prelude.{◌==◌, ◌&&◌, ◌≡◌, ◌+◌, ◌≤◌, ◌<◌, ◌^◌, ◌++◌, length, OnOk, IfOk, IfSome};
 ghost use Rattle.std.specs.Str.{chars};
 ghost use Rattle.star_lexer.specs.Layout as lines;
 ghost use Rattle.star_lexer.specs.Scan as spec;
 ghost use Rattle.std.specs.Prelude.{List, ℕ, ◌⊎◌};
-ghost use Rattle.star_lexer.specs.Chars.{Chars};
-ghost use Rattle.star_lexer.specs.Tokens.{Tokens, FirstFault};
+ghost use Rattle.star_lexer.specs.Chars.{Chars, newline, newlines, first, passed_over};
+ghost use Rattle.star_lexer.specs.Tokens.{Tokens, FirstFault, only_written, written_in};
 ghost use Rattle.star_lexer.specs.Nesting.{IsShallow, IsEnded};
 ghost use Rattle.star_lexer.specs.Lexing.{IsSo, Answers, Refuses, HasTokens, HasFault};
 ghost use Rattle.star_lexer.specs.declared.error.LexKind.{LexKind};
 ghost use Rattle.star_syntax.specs.declared.token.Spanned.{Spanned};
 
-use crate::chars::newlines;
+use crate::chars::{front, newlines};
 use crate::error::{Fault, LexFault};
 use crate::layout::{Layout, push_some};
-use crate::pieces::{blank_at, front, token_at};
+use crate::pieces::{blank_at, token_at};
 use star_syntax::{Spanned, SpannedTokens, Token};
-use std::alloc::{AllocError, Global};
+use std::alloc::{AllocError, AllocFailed, Global};
 
 /// The fault of the token at the front, which starts on this line.
 fn placed(line: u32, text: &[char], fault: Fault) -> LexFault
@@ -119,12 +119,36 @@ fn lex_chars(alloc: Global, text: &[char]) -> Result<SpannedTokens, LexFault>
     Ok(SpannedTokens::from_vec(out))
 }
 
+/// The character is a `\r` just before a newline.
+fn is_passed_over(c: char, more: &[char]) -> bool
+    ensures { result ≡ (c == 13 && first more.now == newline) }
+{
+    c == '\r' && matches!(more, ['\n', ..])
+}
+
+/// The characters without each `\r` just before a newline.
+fn passed_over(alloc: Global, source: &[char]) -> Result<Vec<char>, AllocFailed<char>>
+    ensures value { IfOk result (λ v. v.items ≡ passed_over source.now) }
+    ensures few { IfOk result (λ v. length v.items ≤ length source.now) }
+{
+    let mut text = Vec::new(alloc);
+    let mut left = source;
+    while let [c, more @ ..] = left {
+        if !is_passed_over(*c, more) {
+            text.push(*c)?;
+        }
+        left = more;
+    }
+    Ok(text)
+}
+
 /// The tokens of a source, or its first fault, as they are read.
 fn lex_source(alloc: Global, source: &str) -> Result<SpannedTokens, LexFault>
     requires { length source.now ≤ 65536 }
-    ensures { spec.Lexes result (spec.scan lines.start 0 (chars source.now)) }
+    ensures { spec.Lexes result (spec.scan lines.start 0 (passed_over (chars source.now))) }
 {
-    let text: Vec<char> = source.chars().collect(alloc)?;
+    let source: Vec<char> = source.chars().collect(alloc)?;
+    let text = passed_over(alloc, source.as_slice())?;
     lex_chars(alloc, text.as_slice())
 }
 
@@ -148,5 +172,9 @@ pub fn one_answer()
     ensures some { (text : Chars) → HasTokens text ⊎ HasFault text }
     ensures apart { (text : Chars) → HasTokens text → HasFault text → ⊥ }
     ensures one_list { (text : Chars) (a b : List Spanned) → Tokens text a → Tokens text b → a ≡ b }
+    // The written tokens are those of the pieces in their order, each with its line.
+    ensures written { (text : Chars) (list : List Spanned) (is : Tokens text list) → only_written list ≡ written_in 1 is.pieces }
+    // What is passed over leaves the lines as they are.
+    ensures lines { (text : Chars) → newlines (passed_over text) ≡ newlines text }
     ensures one_fault { (text : Chars) (j k : LexKind) (m n : ℕ) → FirstFault text j m → FirstFault text k n → (j ≡ k) × (m ≡ n) }
 {}

@@ -1,10 +1,8 @@
 -- The spelling of each kind of expression.
 use Rattle.std.proofs.Common.{append_assoc, ◌-◌, get_or, drop, ◌≤◌, ◌≡◌, ◌∙◌, ℕ, Bool, List, [], ◌∷◌, ◌++◌, map, replicate, Option, Some, None, refl, sym, ap, arith, rules, length, take}
 use Rattle.std.specs.List.{flat_map}
-use Rattle.std.proofs.lemmas.List.{take_all}
+use Rattle.std.proofs.lemmas.List.{length-map}
 use Rattle.std.proofs.lemmas.List.Folds.{flat_map-map}
-use Rattle.std.proofs.Math.Seq.{take-length}
-use Rattle.std.proofs.Math.Numerals.{sub-one}
 use Rattle.star_syntax.specs.declared.token.Token.{Token}
 use Rattle.star_syntax.specs.declared.token.Token.TheVariants as t
 use Rattle.star_syntax.specs.declared.token.Keyword.TheVariants as w
@@ -24,7 +22,8 @@ use Rattle.star_syntax.specs.declared.expression.Expr.{Expr, out-Expr, roll-Expr
 use Rattle.star_syntax.specs.declared.expression.Expr.TheOpen.{Expr-F}
 use Rattle.star_syntax.specs.declared.expression.Expr.TheVariants as e
 use Rattle.star_syntax.specs.Spelling.{Tokens, expr_spelling, layer_spelling, tests_spelling, suffix_spelling, clause_spelling, pair_spelling, named_spelling, arguments_spelling, link_spelling, default_spelling, listed, sign_token, chain_token, compare_tokens, if_written, optional, step_spelling}
-use Rattle.star_syntax.specs.SpellingOfParts.{expr_suffix_spelling, expr_clause_spelling, expr_pair_spelling, expr_link_spelling, expr_arguments_spelling, optional_spelling, expr_step_spelling, listed_arguments, parts_spelling}
+use Rattle.star_syntax.specs.SpellingOfParts.{expr_suffix_spelling, expr_clause_spelling, expr_pair_spelling, expr_link_spelling, expr_arguments_spelling, optional_spelling, expr_step_spelling, listed_arguments, listed_after, parts_spelling}
+use Rattle.star_syntax.proofs.ListLemmas.{listed_parts}
 
 -- ---- one layer, over the spellings of whole parts
 
@@ -104,7 +103,7 @@ suffixes_again head (Call given ∷ xs) =
     joined _ _ _ _ (arguments_again _ _ (map expr_spelling given.positional) given.comma (named_again head given.positional given.comma given.named)) (suffixes_again head xs)
 suffixes_again head (Method name given ∷ xs) =
     ap (λ l. t.Mark m.Dot ∷ t.Name name ∷ l)
-        (joined _ _ _ _ (arguments_again _ _ (map expr_spelling given.positional) given.comma (named_again head given.positional given.comma given.named)) (suffixes_again head xs))
+    (joined _ _ _ _ (arguments_again _ _ (map expr_spelling given.positional) given.comma (named_again head given.positional given.comma given.named)) (suffixes_again head xs))
 
 clauses_again : (item : Expr) (xs : List (Clause Expr)) →
     flat_map clause_spelling (clauses_in (map-Expr Expr Tokens expr_spelling (Expr-F.ListOver item xs))) ≡ flat_map expr_clause_spelling xs
@@ -220,5 +219,17 @@ spells-Not count operand = ap expr_spelling (sym (e.rolls-Not count operand)) �
 
 pub spells-Conditional : (value condition other : Expr) → expr_spelling (e.Conditional value condition other) ≡ parts_spelling (Expr-F.Conditional value condition other)
 spells-Conditional value condition other = ap expr_spelling (sym (e.rolls-Conditional value condition other)) ∙ spells_parts (Expr-F.Conditional value condition other)
+
+-- arguments, and then those that are named
+pub arguments_parts : (given : Arguments Expr) → expr_arguments_spelling given
+    ≡ t.Mark m.OpenRound ∷ (tests_spelling given.positional
+    ++ (listed_after (length given.positional) (map default_spelling given.named) ++ (if_written given.comma m.Comma ++ t.Mark m.CloseRound ∷ [])))
+arguments_parts given =
+    let parts : listed_arguments given.positional given.named ≡ tests_spelling given.positional ++ listed_after (length given.positional) (map default_spelling given.named) =
+    listed_parts (map expr_spelling given.positional) (map default_spelling given.named)
+    ∙ ap (λ n. tests_spelling given.positional ++ listed_after n (map default_spelling given.named)) (length-map given.positional expr_spelling) in
+    ap (λ l. t.Mark m.OpenRound ∷ (l ++ (if_written given.comma m.Comma ++ t.Mark m.CloseRound ∷ []))) parts
+    ∙ ap (λ l. t.Mark m.OpenRound ∷ l) (append_assoc (tests_spelling given.positional) (listed_after (length given.positional) (map default_spelling given.named))
+    (if_written given.comma m.Comma ++ t.Mark m.CloseRound ∷ []))
 
 pub ruleset spelling_laws = (spells-Name, spells-Int, spells-Text, spells-None, spells-True, spells-False, spells-Paren, spells-Tuple, spells-List, spells-ListOver, spells-Dict, spells-DictOver, spells-Primary, spells-Signed, spells-Chain, spells-Compare, spells-Not, spells-Conditional, append_assoc)

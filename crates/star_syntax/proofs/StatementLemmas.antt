@@ -1,6 +1,7 @@
 -- The spelling of each kind of statement.
-use Rattle.std.proofs.Common.{append_assoc, ◌≡◌, ◌∙◌, ℕ, Bool, List, [], ◌∷◌, ◌++◌, map, Option, Some, None, refl, sym, ap}
+use Rattle.std.proofs.Common.{append_assoc, ◌≡◌, ◌∙◌, ℕ, Bool, List, [], ◌∷◌, ◌++◌, map, Option, Some, None, refl, sym, ap, length}
 use Rattle.std.specs.List.{flat_map}
+use Rattle.std.proofs.lemmas.List.{length-map}
 use Rattle.std.proofs.lemmas.List.Folds.{flat_map-map}
 use Rattle.star_syntax.specs.declared.token.Token.{Token}
 use Rattle.star_syntax.specs.declared.token.Token.TheVariants as t
@@ -17,8 +18,9 @@ use Rattle.star_syntax.specs.declared.statement.Definition.{Definition}
 use Rattle.star_syntax.specs.declared.statement.Statement.{Statement, roll-Statement, map-Statement, fold-roll-Statement}
 use Rattle.star_syntax.specs.declared.statement.Statement.TheOpen.{Statement-F}
 use Rattle.star_syntax.specs.declared.statement.Statement.TheVariants as s
-use Rattle.star_syntax.specs.Spelling.{Tokens, expr_spelling, tests_spelling, line_spelling, statement_spelling, statement_layer_spelling, block_spelling, branch_spelling, else_spelling, parameters_spelling, if_written}
-use Rattle.star_syntax.specs.SpellingOfParts.{body_spelling, case_spelling, otherwise_spelling, def_spelling, statement_parts_spelling}
+use Rattle.star_syntax.specs.Spelling.{Tokens, expr_spelling, tests_spelling, line_spelling, statement_spelling, statement_layer_spelling, block_spelling, branch_spelling, else_spelling, parameters_spelling, default_spelling, listed, if_written}
+use Rattle.star_syntax.specs.SpellingOfParts.{body_spelling, case_spelling, otherwise_spelling, def_spelling, name_token, listed_after, statement_parts_spelling}
+use Rattle.star_syntax.proofs.ListLemmas.{listed_parts}
 
 at_layer : (d : Statement-F Statement) → statement_spelling (roll-Statement d) ≡ statement_layer_spelling (map-Statement Statement Tokens statement_spelling d)
 unfolding statement_spelling
@@ -86,7 +88,7 @@ statement_spells (Statement-F.If at first more other) =
     at_layer (Statement-F.If at first more other)
     ∙ if_grouped (t.Word w.If ∷ (expr_spelling first.condition ++ t.Mark m.Colon ∷ block_in (spelled (Statement-F.For at [] [] first.body)))) _ _
     ∙ three_same _ _ _ _ _ _ (ap (λ l. t.Word w.If ∷ (expr_spelling first.condition ++ t.Mark m.Colon ∷ l)) (block_again at [] [] first.body))
-      (more_again at first other more) (else_again at first more other)
+    (more_again at first other more) (else_again at first more other)
 statement_spells (Statement-F.For at targets over body) =
     at_layer (Statement-F.For at targets over body)
     ∙ for_grouped (tests_spelling targets) (tests_spelling over) (block_in (spelled (Statement-F.For at targets over body)))
@@ -112,5 +114,28 @@ spells-For at targets over body = ap statement_spelling (sym (s.rolls-For at tar
 
 pub spells-Def : (at : ℕ) (def : Definition Statement) → statement_spelling (s.Def at def) ≡ def_spelling def
 spells-Def at def = ap statement_spelling (sym (s.rolls-Def at def)) ∙ statement_spells (Statement-F.Def at def)
+
+-- the parameters without a default, and then those with one
+pub def_parts : (def : Definition Statement) → def_spelling def
+    ≡ t.Word w.Def ∷ t.Name def.name ∷ t.Mark m.OpenRound ∷ (listed (map name_token def.required)
+    ++ (listed_after (length def.required) (map default_spelling def.defaults) ++ (if_written def.comma m.Comma ++ t.Mark m.CloseRound ∷ t.Mark m.Colon ∷ body_spelling def.body)))
+def_parts def =
+    let parts : parameters_spelling def.required def.defaults ≡ listed (map name_token def.required) ++ listed_after (length def.required) (map default_spelling def.defaults) =
+    listed_parts (map name_token def.required) (map default_spelling def.defaults)
+    ∙ ap (λ n. listed (map name_token def.required) ++ listed_after n (map default_spelling def.defaults)) (length-map def.required name_token) in
+    ap (λ l. t.Word w.Def ∷ t.Name def.name ∷ t.Mark m.OpenRound ∷ (l ++ (if_written def.comma m.Comma ++ t.Mark m.CloseRound ∷ t.Mark m.Colon ∷ body_spelling def.body))) parts
+    ∙ ap (λ l. t.Word w.Def ∷ t.Name def.name ∷ t.Mark m.OpenRound ∷ l) (append_assoc (listed (map name_token def.required)) (listed_after (length def.required) (map default_spelling def.defaults))
+    (if_written def.comma m.Comma ++ t.Mark m.CloseRound ∷ t.Mark m.Colon ∷ body_spelling def.body))
+
+-- an `if` that was written branch by branch
+pub if_whole : (tree : Statement) (at : ℕ) (first : Branch Statement) (more rest : List (Branch Statement)) (other : Option (Block Statement)) (old a b now : Tokens)
+    → tree ≡ s.If at first more other → rest ≡ more → a ≡ old ++ case_spelling w.If first → b ≡ a ++ flat_map (case_spelling w.Elif) rest
+    → now ≡ b ++ otherwise_spelling other → now ≡ old ++ statement_spelling tree
+if_whole tree at first more rest other old a b now is same one two three =
+    rw (is, spells-If at first more other)
+    (three ∙ ap (λ l. l ++ otherwise_spelling other) (two ∙ ap (λ l. a ++ flat_map (case_spelling w.Elif) l) same)
+    ∙ append_assoc a (flat_map (case_spelling w.Elif) more) (otherwise_spelling other)
+    ∙ ap (λ l. l ++ (flat_map (case_spelling w.Elif) more ++ otherwise_spelling other)) one
+    ∙ append_assoc old (case_spelling w.If first) (flat_map (case_spelling w.Elif) more ++ otherwise_spelling other))
 
 pub ruleset statement_laws = (spells-Line, spells-If, spells-For, spells-Def, append_assoc)

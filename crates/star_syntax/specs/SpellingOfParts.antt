@@ -1,9 +1,10 @@
 -- The spellings of the parts of a tree, where the parts are trees and not yet spelled.
-use Rattle.std.specs.Prelude.{ℕ, List, [], ◌∷◌, ◌++◌, map, replicate, Option, Some, None}
+use Rattle.std.specs.Prelude.{ℕ, zero, suc, List, [], ◌∷◌, ◌++◌, map, replicate, Option, Some, None}
 use Rattle.std.specs.List.{flat_map}
 use Rattle.star_syntax.specs.declared.token.Keyword.{Keyword}
 use Rattle.star_syntax.specs.declared.token.Keyword.TheVariants as w
 use Rattle.star_syntax.specs.declared.token.Token.TheVariants as t
+use Rattle.star_syntax.specs.declared.token.Mark.{Mark}
 use Rattle.star_syntax.specs.declared.token.Mark.TheVariants as m
 use Rattle.star_syntax.specs.declared.expression.Link.{Link}
 use Rattle.star_syntax.specs.declared.expression.Named.{Named}
@@ -22,6 +23,21 @@ use Rattle.star_syntax.specs.declared.statement.Definition.{Definition}
 use Rattle.star_syntax.specs.declared.statement.Statement.{Statement}
 use Rattle.star_syntax.specs.declared.statement.Statement.TheOpen.{Statement-F}
 use Rattle.star_syntax.specs.Spelling.{Tokens, expr_spelling, tests_spelling, line_spelling, statement_spelling, default_spelling, parameters_spelling, listed, if_written, chain_token, sign_token, compare_tokens}
+
+-- ---- lists with marks between
+
+-- the mark between two phrases, before the phrase at this place
+abbrev pub after : ℕ → Mark → Tokens
+after zero mark = []
+after (suc n) mark = t.Mark mark ∷ []
+
+-- phrases with commas between, after so many phrases of the same list
+abbrev pub listed_after : ℕ → List Tokens → Tokens
+listed_after zero phrases = listed phrases
+listed_after (suc n) phrases = flat_map (λ y. t.Mark m.Comma ∷ y) phrases
+
+abbrev pub name_token : List ℕ → Tokens
+name_token name = t.Name name ∷ []
 
 -- ---- expressions
 

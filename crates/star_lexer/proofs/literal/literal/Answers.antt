@@ -1,17 +1,30 @@
-use Rattle.std.proofs.Common.{sym, ap, ◌∙◌, ◌≤◌, length, arith, drop, ◌+◌, length-drop, ◌≡◌, Ok, ◌∷◌, []}
+use Rattle.std.proofs.Common.{sym, ap, ◌∙◌, ◌≤◌, length, arith, drop, ◌+◌, length-drop, ◌≡◌, false, Ok}
 use Rattle.std.proofs.lemmas.Grind.{common_steps}
-use Rattle.star_lexer.specs.Reading.{content, before, blamed, part_at}
-use Rattle.star_lexer.specs.Lengths.{far}
+use Rattle.star_lexer.specs.Texts.{far, content, before, blamed, part_at, closes, opening}
+use Rattle.star_lexer.specs.Verdict.{meant}
 use Rattle.star_lexer.proofs.Contents.{literal_turn, literal_begins}
+use Rattle.star_lexer.proofs.Styles.{opening_fits}
 use Rattle.star_lexer.proofs.literal.literal.Goals as goal
 
 pub loop-at-init : goal.loop-at-init
-loop-at-init c = (literal_begins _ _ c.new-points.ensures.items c.requires, omega arith, omega arith)
+loop-at-init c = record {
+  told = literal_begins _ _ _ _ c.style_at-style.ensures c.opening_len-at.ensures.value c.new-points.ensures.items;
+  within = let fits = opening_fits c.args.text.now c.requires in omega (arith, fits, c.opening_len-at.ensures.value, ap (λ q. length (opening q)) c.style_at-style.ensures);
+  some = omega (arith, c.opening_len-at.ensures.some);
+}
 
 pub loop-at-preserved : goal.loop-at-preserved
 loop-at-preserved c =
+    let l = c.loop-at in
+    let q = c.style_at-style.result in
     let n = c.in-Ok.ensures.within in
-    let read : part_at (drop c.loop-at.at c.args.text.now) ≡ Ok (c.in-Ok.c ∷ [], c.in-Ok.len) = grind (arith, common_steps, c.in-Ok.ensures.value) in
-    let room : c.in-Ok.len ≤ length (drop c.loop-at.at c.args.text.now) = grind (arith, common_steps, n.1) in
-    let turn = literal_turn c.args.text.now c.loop-at.points.items c.loop-at.at c.in-Ok.len c.in-Ok.c c.index-text-at.result c.loop-at.invariant.0 c.loop-at-test.true c.index-text-at.is c.if-text-at-eq34.false n.0 room read in
-    (turn ∙ ap (λ xs. blamed (before xs (far (c.loop-at.at + c.in-Ok.len) (content 0 (drop (c.loop-at.at + c.in-Ok.len) c.args.text.now))))) (sym c.in_ok-push-in-Ok.ensures.items), omega (arith, length-drop c.loop-at.at c.args.text.now), omega arith)
+    let text = c.args.text.now in
+    let open_here : closes q (drop l.at text) ≡ false = grind (arith, common_steps, c.closes.ensures, c.if-closes.false) in
+    let fits : c.in-Ok.len ≤ length (drop l.at text) = grind (arith, common_steps, n.1) in
+    let read : part_at q (drop l.at text) ≡ Ok (meant c.in-Ok.meaning, c.in-Ok.len) = grind (arith, common_steps, c.in-Ok.ensures.value) in
+    let turn = literal_turn q text l.points.items (meant c.in-Ok.meaning) l.at c.in-Ok.len l.invariant.told c.loop-at-test.true open_here n.0 fits read in
+    record {
+      told = turn ∙ ap (λ xs. blamed (before xs (far (l.at + c.in-Ok.len) (content q 0 (drop (l.at + c.in-Ok.len) text))))) (sym c.in_ok-add-in-Ok.ensures);
+      within = omega (arith, fits, length-drop l.at text);
+      some = omega (arith, l.invariant.some);
+    }

@@ -1,7 +1,7 @@
 use Rattle.std.proofs.Common.{sym, ap, ◌∙◌, ◌+◌, ◌*◌, ◌<◌, arith, drop}
 use Rattle.std.specs.Char.{digit_value}
 use Rattle.std.specs.Str.Parse.{digits_value_after}
-use Rattle.star_lexer.specs.Reading.{widest}
+use Rattle.star_lexer.specs.Numbers.{widest}
 use Rattle.star_lexer.proofs.Numbers.{too_wide, drop_here}
 use Rattle.star_lexer.proofs.number.value_of.Goals as goal
 

@@ -1,6 +1,6 @@
 use Rattle.std.proofs.Common.{◌≡◌, ◌≤◌, drop}
 use Rattle.std.specs.Str.Parse.{digits_value_after, digits_value}
-use Rattle.star_lexer.specs.Reading.{widest}
+use Rattle.star_lexer.specs.Numbers.{widest}
 use Rattle.star_lexer.proofs.number.value_of.Given as goal
 
 abbrev pub invariant-loop-c : goal.invariant-loop-c
