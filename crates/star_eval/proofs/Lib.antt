@@ -2,3 +2,4 @@ pub mod Integers
 pub mod Cases
 pub mod Literals
 pub mod GlobalsLemmas
+pub mod ThinRuns
