@@ -6,12 +6,14 @@
 
 pub mod expression;
 pub mod operator;
+pub mod spelling;
 pub mod statement;
 pub mod token;
 pub mod tokens;
 
 pub use expression::{Arguments, ChainLevel, ChainOp, Clause, Expr, Link, Named, Pair, Suffix};
 pub use operator::{BinaryOp, CompareOp, UnaryOp};
+pub use spelling::{Tokens, spell};
 pub use statement::{Block, Branch, Def, Definition, Line, Module, Small, SmallKind, Statement};
 pub use token::{Keyword, Mark, Spanned, Token};
 pub use tokens::SpannedTokens;

@@ -1,0 +1,6 @@
+use Rattle.std.proofs.Common.{ap, ◌∙◌, rules, length, sym}
+use Rattle.std.proofs.lemmas.Str.{chars_from_encodes}
+use Rattle.chex_base.proofs.text.Text.len.Goals as goal
+
+pub returns-clause-len : goal.returns-clause-len
+returns-clause-len c = rw (← c.self.view_is) (search (rules, chars_from_encodes))

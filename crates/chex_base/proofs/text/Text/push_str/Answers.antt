@@ -1,0 +1,10 @@
+use Rattle.std.proofs.Common.{ap, ◌∙◌, ◌++◌, sym}
+use Rattle.std.specs.Str.{chars}
+use Rattle.std.proofs.lemmas.Str.{chars-append, IsUtf8-string_bytes}
+use Rattle.chex_base.proofs.text.Text.push_str.Goals as goal
+
+pub returns-clause-ok : goal.returns-clause-ok
+returns-clause-ok c =
+    ap chars c.in_ok-push_str.ensures.bytes
+    ∙ (chars-append _ c.args.more.now (IsUtf8-string_bytes c.self.inside.bytes)
+    ∙ ap (λ t. t ++ chars c.args.more.now) c.self.view_is)

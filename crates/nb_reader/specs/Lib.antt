@@ -1,0 +1,4 @@
+pub mod Reading
+pub mod Notebook
+pub mod Inputs
+pub mod Manifest

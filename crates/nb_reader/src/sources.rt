@@ -1,0 +1,48 @@
+//! The sources of a notebook's code cells.
+ghost use Rattle.std.specs.Prelude.{◌≡◌, ◌∷◌, ◌++◌, [], OnOk, OnErr};
+
+use chex_base::{NoMemory, Text};
+use std::alloc::Global;
+use std::marker::Model;
+
+/// The sources of code cells, in the order of the notebook, which contracts see as a list of
+/// texts.
+#[derive(Drop)]
+pub struct Sources {
+    texts: Vec<Text>,
+}
+
+impl Model for Sources {
+    ghost use Rattle.std.specs.Prelude.{ℕ, List};
+
+    ghost Value = { List (List ℕ) };
+
+    ghost view = { λ s. s.texts.items };
+}
+
+impl Sources {
+    /// No sources. It takes no memory.
+    pub fn new(alloc: Global) -> Sources
+        ensures { result ≡ [] }
+    {
+        Sources {
+            texts: Vec::new(alloc),
+        }
+    }
+
+    /// Adds a source at the end. A refused one is dropped, and the sources stay as they were.
+    pub fn add(&mut self, text: Text) -> Result<(), NoMemory>
+        ensures ok { OnOk result (self.new ≡ self.old ++ text ∷ []) }
+        ensures err { OnErr result (self.new ≡ self.old) }
+    {
+        self.texts.push(text)?;
+        Ok(())
+    }
+
+    /// The sources, in order. It takes no memory.
+    pub fn as_slice(&self) -> &[Text]
+        ensures { result.now ≡ self.now }
+    {
+        self.texts.as_slice()
+    }
+}

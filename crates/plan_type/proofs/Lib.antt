@@ -1,0 +1,14 @@
+pub mod PlanParts
+pub mod Sound
+pub mod Sizes
+pub mod Works
+pub mod WorkFits
+pub mod Entries
+pub mod Runs
+pub mod Led
+pub mod Reached
+pub mod Listed
+pub mod Widths
+pub mod SoundBelow
+pub mod Lines
+pub mod Writable

@@ -1,0 +1,6 @@
+pub mod Costs
+pub mod Budget
+pub mod Plan
+pub mod Prices
+pub mod Operations
+pub mod PlanText

@@ -1,0 +1,19 @@
+//! Plans of replay: in which order the nodes of the merged tree are computed, and for which of
+//! them a snapshot is held. A plan is told over the costs of the nodes; this crate says what a
+//! plan costs, how many blocks it holds at most, which operations carry it out, and how it is
+//! written.
+#![tactic(auto)]
+
+pub mod budget;
+pub mod costs;
+pub mod operations;
+pub mod plan;
+pub mod row;
+pub mod text;
+
+pub use budget::Budget;
+pub use costs::{Costs, Rows};
+pub use operations::{Operation, Operations};
+pub use plan::{Entries, Entry, Plan};
+pub use row::{Reach, Row};
+pub use text::write_plan;

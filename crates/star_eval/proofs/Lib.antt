@@ -1,0 +1,4 @@
+pub mod Integers
+pub mod Cases
+pub mod Literals
+pub mod GlobalsLemmas
