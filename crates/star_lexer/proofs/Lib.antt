@@ -17,4 +17,5 @@ pub mod Laws
 pub mod Once
 pub mod Passed
 pub mod Nested
+pub mod Balanced
 pub mod Lined

@@ -15,7 +15,7 @@ use Rattle.star_lexer.specs.Lexeme as lexeme
 use Rattle.star_syntax.specs.declared.token.Spanned.{Spanned}
 use Rattle.star_lexer.specs.Chars.{Chars}
 use Rattle.star_lexer.specs.Layout.{spanned, start, settle, indented, opened, kept, top, bracket, shallower, advanced, ended, line_end, ends, IsNested, most_nested}
-use Rattle.star_lexer.specs.Nesting.{Open, after_token, after_all, IsFew, IsShallowFrom, IsShallow}
+use Rattle.star_syntax.specs.Nesting.{Open, after_token, after_all, IsFew, IsShallowFrom, IsShallow}
 use Rattle.star_lexer.specs.Pieces.{Piece, Spells, IsWritten}
 use Rattle.star_lexer.specs.Scan.{Lexed, at, ◌>>=◌}
 use Rattle.star_lexer.specs.Tokens.{IsCut, Laid, step, step_by, lay, Tokens}

@@ -11,8 +11,9 @@ use Rattle.star_lexer.specs.Tokens.{Tokens, FirstFault}
 use Rattle.star_lexer.specs.Lexing.{IsSo, Answers, Refuses, HasTokens, HasFault}
 use Rattle.star_lexer.proofs.Whole.{Found, scan_found, tokens_scanned, first_fault_scanned, ok_same, err_same}
 use Rattle.star_lexer.proofs.Laws.{exact}
+use Rattle.star_lexer.proofs.Balanced.{tokens_balanced}
 use Rattle.star_lexer.proofs.Nested.{tokens_shallow, last_end}
-use Rattle.star_lexer.specs.Nesting.{IsShallow, IsEnded}
+use Rattle.star_syntax.specs.Nesting.{IsShallow, IsBalanced, IsEnded}
 use Rattle.std.specs.Prelude.{IfOk}
 
 found : (text : Chars) → Found start (passed_over text) (scan start 0 (passed_over text))
@@ -61,6 +62,10 @@ one_fault text j k m n p q =
 pub nests : (text : Chars) (r : Result (List Spanned) LexFault) → IsSo text r → IfOk r IsShallow
 nests text (Ok x) is = tokens_shallow text x is
 nests text (Err e) is = tt
+
+pub balances : (text : Chars) (r : Result (List Spanned) LexFault) → IsSo text r → IfOk r IsBalanced
+balances text (Ok x) is = tokens_balanced text x is
+balances text (Err e) is = tt
 
 pub closes : (text : Chars) (r : Result (List Spanned) LexFault) → IsSo text r → IfOk r IsEnded
 closes text (Ok x) is = last_end text x is

@@ -25,6 +25,7 @@ is_quote c = c == 34 || c == 39
 abbrev pub is_name_start : ℕ → Bool
 is_name_start c = is_ascii_alphabetic c || c == 95
 
+-- the classes of characters
 abbrev pub is_in : Class → ℕ → Bool
 is_in class.Name c = is_name_start c || is_ascii_digit c
 is_in class.Line c = not (c == newline)
@@ -32,6 +33,7 @@ is_in class.Digit c = is_ascii_digit c
 is_in class.Octal c = nat_le 48 c && nat_le c 55
 is_in class.Hex c = is_ascii_hexdigit c
 
+-- how many newlines there are
 abbrev pub newlines : Chars → ℕ
 newlines = count_by (λ c. c == newline)
 

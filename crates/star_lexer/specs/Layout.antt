@@ -49,6 +49,7 @@ abbrev pub top : List ℕ → ℕ → ℕ
 top columns zero = 0
 top columns (suc n) = slice_index columns n
 
+-- so many brackets and columns past the first may be open
 abbrev pub most_nested : ℕ
 most_nested = 32
 
@@ -56,11 +57,13 @@ most_nested = 32
 abbrev pub IsNested : Layout → Type 0
 IsNested s = s.depth + length s.columns ≤ most_nested
 
+-- a line deeper than all open columns opens its column
 abbrev pub opened : Layout → Result (Layout × List Spanned) LexKind
 opened s =
     if nat_lt (s.depth + length s.columns) most_nested
     then Ok (record s { columns = s.columns ++ s.column ∷ []; is_start = false }, spanned t.Indent s.line ∷ []) else Err TooNested
 
+-- a line at one of the open columns, or at 0, closes the deeper ones; else it opens one, if it is deeper than all
 abbrev pub indented : Layout → ℕ → Result (Layout × List Spanned) LexKind
 indented s k =
     if top s.columns k == s.column
@@ -74,12 +77,15 @@ settle s =
 
 -- ---- brackets
 
+-- one more open bracket
 abbrev pub deeper : Layout → Result Layout LexKind
 deeper s = if nat_lt (s.depth + length s.columns) most_nested then Ok (record s { depth = s.depth + 1 }) else Err TooNested
 
+-- one bracket less, if there is one
 abbrev pub shallower : Layout → Layout
 shallower s = record s { depth = s.depth - 1 }
 
+-- what a token makes of the open brackets
 unfoldable pub bracket : Layout → Token → Result Layout LexKind
 bracket s (t.Mark m.OpenRound) = deeper s
 bracket s (t.Mark m.OpenSquare) = deeper s
@@ -89,10 +95,12 @@ bracket s (t.Mark m.CloseSquare) = Ok (shallower s)
 bracket s (t.Mark m.CloseCurly) = Ok (shallower s)
 bracket s _ = Ok s
 
+-- behind a token that is written so
 abbrev pub advanced : Layout → Chars → Layout
 advanced s piece = record s { line = s.line + newlines piece }
 
 -- ---- the end
 
+-- the last line ends, the open columns close, and End stands
 unfoldable pub ends : Layout → List Spanned
 ends s = line_end (record s { depth = 0 }) ++ replicate (length s.columns) (spanned t.Dedent s.line) ++ spanned t.End s.line ∷ []

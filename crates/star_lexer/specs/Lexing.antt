@@ -25,7 +25,6 @@ Refuses line kind (Ok found) = ⊥
 Refuses line kind (Err (Bad bad place)) = (bad ≡ kind) × (place ≡ line)
 Refuses line kind (Err NoMemory) = Unit {0}
 
--- a text has tokens or a first fault
 abbrev pub HasTokens : Chars → Type 0
 HasTokens text = (list : List Spanned) × Tokens text list
 

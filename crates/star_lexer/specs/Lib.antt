@@ -12,4 +12,3 @@ pub mod Scan
 pub mod Pieces
 pub mod Tokens
 pub mod Lexing
-pub mod Nesting

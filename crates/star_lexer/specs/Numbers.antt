@@ -32,12 +32,15 @@ numeral word =
 abbrev pub widest : ℕ
 widest = 170141183460469231731687303715884105727
 
+-- the number, if it is not too wide
 abbrev pub fitting : ℕ → Result ℤ LexKind
 fitting n = if nat_le n widest then Ok (pos n) else Err WideNumber
 
+-- the same where the word writes a number at all
 abbrev pub fits : Option ℕ → Result ℤ LexKind
 fits None = Err BadNumber
 fits (Some n) = fitting n
 
+-- the value of a word that begins with a digit, or what is wrong with it
 unfoldable pub number : Chars → Result ℤ LexKind
 number word = fits (numeral word)

@@ -17,6 +17,7 @@ use Rattle.star_lexer.specs.Numbers.{numeral, widest}
 use Rattle.star_lexer.specs.Texts.{delimiter, opening, closes, escape}
 use Rattle.star_lexer.specs.Words.{keyword_text, reserved_text, mark_text}
 
+-- what a piece is, and how it is written
 pub record Piece : Type 0 where
   pub lexeme : Lexeme
   pub spelling : Chars
@@ -24,14 +25,17 @@ pub record Piece : Type 0 where
 abbrev pub piece : Lexeme → Chars → Piece
 piece l s = record { lexeme = l; spelling = s }
 
+-- the pieces one after the other
 abbrev pub spelled : List Piece → Chars
 spelled = flat_map (λ p. p.spelling)
 
 -- ---- white space and comments
 
+-- `#`, and anything up to the line's end
 abbrev pub IsComment : Chars → Type 0
 IsComment s = (first s ≡ 35) × (list_all (is_in class.Line) s ≡ true)
 
+-- a space, a tab, a backslash just before a newline, or a comment
 abbrev pub IsBlank : Chars → Type 0
 IsBlank s = (s ≡ 32 ∷ []) ⊎ ((s ≡ 9 ∷ []) ⊎ ((s ≡ backslash ∷ newline ∷ []) ⊎ IsComment s))
 
@@ -46,6 +50,7 @@ pub record Part : Type 0 where
 abbrev pub IsPlain : Style → Part → Type 0
 IsPlain q p = (c : ℕ) × (c ≢ backslash) × (q.is_wide ≡ false → c ≢ newline) × (p.spelling ≡ c ∷ []) × (p.value ≡ c ∷ [])
 
+-- a backslash and what an escape is without it; not in a raw text
 abbrev pub IsEscape : Style → Part → Type 0
 IsEscape q p = (w v : Chars) × (q.is_raw ≡ false) × (escape w ≡ Some v) × (p.spelling ≡ backslash ∷ w) × (p.value ≡ v)
 
@@ -53,6 +58,7 @@ IsEscape q p = (w v : Chars) × (q.is_raw ≡ false) × (escape w ≡ Some v) ×
 abbrev pub IsKept : Style → Part → Type 0
 IsKept q p = (c : ℕ) × (q.is_raw ≡ true) × (p.spelling ≡ backslash ∷ c ∷ []) × (p.value ≡ backslash ∷ c ∷ [])
 
+-- a part of a text of this style
 abbrev pub IsPart : Style → Part → Type 0
 IsPart q p = IsPlain q p ⊎ (IsEscape q p ⊎ IsKept q p)
 
@@ -83,17 +89,20 @@ pub record IsWord (s : Chars) : Type 0 where
   pub starts : is_name_start (first s) ≡ true
   pub all : list_all (is_in class.Name) s ≡ true
 
+-- a word that is neither a keyword nor reserved
 pub record IsName (n s : Chars) : Type 0 where
   pub same : n ≡ s
   pub word : IsWord s
   pub free : (k : Keyword) → keyword_text k ≢ s
   pub allowed : (r : Reserved) → reserved_text r ≢ s
 
+-- a word that begins with a digit and writes a number of at most 2 ^ 127 - 1
 pub record IsNumber (n : ℕ) (s : Chars) : Type 0 where
   pub starts : is_ascii_digit (first s) ≡ true
   pub numeral : numeral s ≡ Some n
   pub fits : n ≤ widest
 
+-- how a token is written; Newline, Indent, Dedent and End are not
 abbrev pub Spells : Token → Chars → Type 0
 Spells (t.Name n) s = IsName n s
 Spells (t.Word k) s = s ≡ keyword_text k
@@ -105,6 +114,7 @@ Spells t.Indent s = ⊥
 Spells t.Dedent s = ⊥
 Spells t.End s = ⊥
 
+-- how a piece is written
 abbrev pub IsWritten : Lexeme → Chars → Type 0
 IsWritten lexeme.Blank s = IsBlank s
 IsWritten lexeme.Line s = s ≡ newline ∷ []
@@ -126,6 +136,7 @@ is_word _ = false
 abbrev pub IsEmptyText : ℕ → Chars → Type 0
 IsEmptyText c s = (s ≡ c ∷ c ∷ []) ⊎ (s ≡ letter_r ∷ c ∷ c ∷ [])
 
+-- the piece may stand before the rest
 pub record Apart (p : Piece) (rest : Chars) : Type 0 where
   -- a word is not directly before a letter, a digit or `_`
   pub word : is_word p.lexeme ≡ true → is_in class.Name (first rest) ≡ false
@@ -157,7 +168,7 @@ pub record IsLongWord (w more : Chars) : Type 0 where
 abbrev pub is_opening : ℕ → Bool
 is_opening c = is_name_start c || (is_ascii_digit c || is_quote c)
 
--- no piece begins here
+-- no piece begins here, and no word, number or text that is faulty as a whole
 pub record IsStray (text : Chars) : Type 0 where
   pub some : text ≢ []
   pub opening : is_opening (first text) ≡ false

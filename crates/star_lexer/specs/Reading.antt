@@ -21,11 +21,13 @@ use Rattle.star_lexer.specs.Words.{keyword_of, reserved_of, mark_of, mark_text}
 
 -- ---- names and keywords
 
+-- a keyword, a reserved word or a name
 abbrev pub named : Option Keyword → Option Reserved → Chars → Result Token LexKind
 named (Some k) r word = Ok (t.Word k)
 named None (Some r) word = Err ReservedWord
 named None None word = Ok (t.Name word)
 
+-- the token that a whole word is
 abbrev pub word_token : Chars → Result Token LexKind
 word_token word = named (keyword_of word) (reserved_of word) word
 
@@ -52,6 +54,7 @@ blank_at text =
     else (if first text == 35 then prefix_len (is_in class.Line) text
     else (if first text == backslash && first (rest text) == newline then 2 else 0))
 
+-- the token at the front
 unfoldable pub token_at : Chars → Read Token
 token_at text =
     let n = prefix_len (is_in class.Name) text in

@@ -133,6 +133,7 @@ blamed (Ok p) = Ok p
 blamed (Err (f.Open, n)) = Err (OpenString, 0)
 blamed (Err (f.Escape, n)) = Err (BadEscape, n)
 
+-- the text at the front: its value, and its length with its quotes
 unfoldable pub literal : Chars → Read Chars
 literal text =
     let q = style_at text in

@@ -12,6 +12,7 @@ use Rattle.star_lexer.specs.declared.keywords.TheConstants.{KEYWORDS}
 use Rattle.star_lexer.specs.declared.marks.TheConstants.{MARKS}
 use Rattle.star_lexer.specs.Chars.{Chars}
 
+-- how a keyword is written
 abbrev pub keyword_text : Keyword → Chars
 keyword_text k.And = 97 ∷ 110 ∷ 100 ∷ []
 keyword_text k.Or = 111 ∷ 114 ∷ []
@@ -30,7 +31,7 @@ keyword_text k.None = 78 ∷ 111 ∷ 110 ∷ 101 ∷ []
 keyword_text k.True = 84 ∷ 114 ∷ 117 ∷ 101 ∷ []
 keyword_text k.False = 70 ∷ 97 ∷ 108 ∷ 115 ∷ 101 ∷ []
 
--- words that are refused
+-- how a reserved word is written
 abbrev pub reserved_text : Reserved → Chars
 reserved_text r.As = 97 ∷ 115 ∷ []
 reserved_text r.Assert = 97 ∷ 115 ∷ 115 ∷ 101 ∷ 114 ∷ 116 ∷ []
@@ -51,6 +52,7 @@ reserved_text r.While = 119 ∷ 104 ∷ 105 ∷ 108 ∷ 101 ∷ []
 reserved_text r.With = 119 ∷ 105 ∷ 116 ∷ 104 ∷ []
 reserved_text r.Yield = 121 ∷ 105 ∷ 101 ∷ 108 ∷ 100 ∷ []
 
+-- how a mark is written
 abbrev pub mark_text : Mark → Chars
 mark_text m.Plus = 43 ∷ []
 mark_text m.Minus = 45 ∷ []
@@ -92,6 +94,7 @@ abbrev pub lookup : {X : Type 0} → (X → Chars) → List X → Chars → Opti
 lookup text [] word = None
 lookup text (x ∷ xs) word = if bytes_eq (text x) word then Some x else lookup text xs word
 
+-- the keyword, reserved word or mark that is written so, if there is one
 unfoldable pub keyword_of : Chars → Option Keyword
 keyword_of = lookup keyword_text KEYWORDS
 

@@ -18,4 +18,4 @@ pub mod source;
 mod tests;
 
 pub use error::{LexFault, LexKind};
-pub use source::lex;
+pub use source::{lex, one_answer};

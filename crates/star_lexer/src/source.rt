@@ -1,4 +1,4 @@
-//! The tokens of a text.
+//! The tokens of a source, read from its start to its end.
 ghost use Rattle.std.specs.Prelude.{◌==◌, ◌&&◌, ◌≡◌, ◌+◌, ◌≤◌, ◌<◌, ◌^◌, ◌++◌, length, OnOk, IfOk, IfSome};
 ghost use Rattle.std.specs.Str.{chars};
 ghost use Rattle.star_lexer.specs.Layout as lines;
@@ -6,7 +6,7 @@ ghost use Rattle.star_lexer.specs.Scan as spec;
 ghost use Rattle.std.specs.Prelude.{List, ℕ, ◌⊎◌};
 ghost use Rattle.star_lexer.specs.Chars.{Chars, newline, newlines, first, passed_over};
 ghost use Rattle.star_lexer.specs.Tokens.{Tokens, FirstFault, only_written, written_in};
-ghost use Rattle.star_lexer.specs.Nesting.{IsShallow, IsEnded};
+ghost use Rattle.star_syntax.specs.Nesting.{IsShallow, IsBalanced, IsEnded};
 ghost use Rattle.star_lexer.specs.Lexing.{IsSo, Answers, Refuses, HasTokens, HasFault};
 ghost use Rattle.star_lexer.specs.declared.error.LexKind.{LexKind};
 ghost use Rattle.star_syntax.specs.declared.token.Spanned.{Spanned};
@@ -162,12 +162,13 @@ pub fn lex(alloc: Global, source: &str) -> Result<SpannedTokens, LexFault>
     // Where it has a first fault, that is answered, unless memory runs out.
     ensures fault { (kind : LexKind) (line : ℕ) → FirstFault (chars source.now) kind line → Refuses line kind result }
     ensures nested { IfOk result IsShallow }
+    ensures balanced { IfOk result IsBalanced }
     ensures ended { IfOk result IsEnded }
 {
     lex_source(alloc, source)
 }
 
-/// A source has tokens or a first fault, never both, and not two of either.
+/// The law of the definitions: a source has tokens or a first fault, never both, and not two of either. Does nothing.
 pub fn one_answer()
     ensures some { (text : Chars) → HasTokens text ⊎ HasFault text }
     ensures apart { (text : Chars) → HasTokens text → HasFault text → ⊥ }

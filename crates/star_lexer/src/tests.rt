@@ -331,3 +331,23 @@ fn nests_up_to_32(rt: HostRuntime) -> Result<(), Fail> {
     }
     Ok(())
 }
+
+#[test]
+fn reads_the_longest_source(rt: HostRuntime) -> Result<(), Fail> {
+    let alloc = rt.alloc();
+    let open = LexFault::Bad {
+        kind: LexKind::OpenString,
+        line: 1,
+    };
+    for (source, want) in [
+        (run(alloc, "", ' ', 65536)?, Ok(1)),
+        (run(alloc, "", '\n', 65536)?, Ok(1)),
+        (run(alloc, "x", '#', 65535)?, Ok(3)),
+        (run(alloc, "", '+', 65536)?, Ok(65536 + 2)),
+        (run(alloc, "", 'x', 65536)?, Ok(3)),
+        (run(alloc, "'", 'a', 65535)?, Err(open)),
+    ] {
+        assert_eq!(rt; outcome(alloc, source.as_str()), want);
+    }
+    Ok(())
+}

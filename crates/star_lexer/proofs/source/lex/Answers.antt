@@ -1,5 +1,5 @@
 use Rattle.std.specs.Str.{chars}
-use Rattle.star_lexer.proofs.Once.{is_so, answers, refuses, nests, closes}
+use Rattle.star_lexer.proofs.Once.{is_so, answers, refuses, nests, balances, closes}
 use Rattle.star_lexer.proofs.source.lex.Goals as goal
 
 pub returns-clause-found : goal.returns-clause-found
@@ -16,3 +16,6 @@ returns-clause-nested c = nests (chars c.args.source.now) _ (is_so (chars c.args
 
 pub returns-clause-ended : goal.returns-clause-ended
 returns-clause-ended c = closes (chars c.args.source.now) _ (is_so (chars c.args.source.now) _ c.lex_source.ensures)
+
+pub returns-clause-balanced : goal.returns-clause-balanced
+returns-clause-balanced c = balances (chars c.args.source.now) _ (is_so (chars c.args.source.now) _ c.lex_source.ensures)
