@@ -3,5 +3,8 @@
 #![tactic(auto)]
 
 pub mod offer;
+pub mod optimum;
 pub mod standing;
 pub mod value;
+
+pub use optimum::least;
