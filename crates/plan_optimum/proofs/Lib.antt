@@ -5,3 +5,4 @@ pub mod Weights
 pub mod Upper
 pub mod Stands
 pub mod Builds
+pub mod Shallow

@@ -8,3 +8,6 @@ pub mod standing;
 pub mod value;
 
 pub use optimum::least;
+
+#[cfg(test)]
+mod tests;
