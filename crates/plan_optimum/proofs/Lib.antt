@@ -4,3 +4,5 @@ pub mod Lower
 pub mod Weights
 pub mod Upper
 pub mod Stands
+pub mod Builds
+pub mod Shallow

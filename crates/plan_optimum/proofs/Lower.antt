@@ -16,7 +16,6 @@ use Rattle.plan_type.proofs.PlanParts.{rest_cost, cost_parts, rest_peak, peak_pa
 use Rattle.plan_optimum.proofs.Orders.{Above, local_lower}
 
 module _ (tree : Tree) (prices : Prices) (most end : ℕ) (grows : Grows tree end) where
-
   Bounded : Plan → Type 0
   Bounded p = (depth u back again used : ℕ) → IsPlanOf tree.children u p → peak_at tree.blocks p u used ≤ most → (u ≡ 0 → HoldsNone (entries_of p))
       → bound tree prices most depth u back again used ≤ cost_at tree prices p u back again
@@ -42,24 +41,24 @@ module _ (tree : Tree) (prices : Prices) (most end : ℕ) (grows : Grows tree en
   each_above depth u back again used (e ∷ es) (b, below) (o, orders) (n, under) (h, bounds) fits =
       (by e.hold (omega arith), each_above depth u back again used es below orders under bounds (omega arith))
     where
-    by : (hold : Bool) → peak_at tree.blocks e.rest e.child (if hold then used + tree.blocks u else used) ≤ most
-        → (if hold then (choice depth u back again used).held e.child else (choice depth u back again used).free e.child)
-        ≤ tree.steps e.child + (if hold then cost_at tree prices e.rest e.child (tree.steps e.child) (prices.load * tree.blocks u) else cost_at tree prices e.rest e.child (back + tree.steps e.child) again)
-    by true fits = let i = h depth e.child (tree.steps e.child) (prices.load * tree.blocks u) (used + tree.blocks u) (record { here = o; under = n }) fits (λ z. absurd (omega arith)) in omega (arith, i)
-    by false fits = let i = h depth e.child (back + tree.steps e.child) again used (record { here = o; under = n }) fits (λ z. absurd (omega arith)) in omega (arith, i)
+      by : (hold : Bool) → peak_at tree.blocks e.rest e.child (if hold then used + tree.blocks u else used) ≤ most
+          → (if hold then (choice depth u back again used).held e.child else (choice depth u back again used).free e.child)
+          ≤ tree.steps e.child + (if hold then cost_at tree prices e.rest e.child (tree.steps e.child) (prices.load * tree.blocks u) else cost_at tree prices e.rest e.child (back + tree.steps e.child) again)
+      by true fits = let i = h depth e.child (tree.steps e.child) (prices.load * tree.blocks u) (used + tree.blocks u) (record { here = o; under = n }) fits (λ z. absurd (omega arith)) in omega (arith, i)
+      by false fits = let i = h depth e.child (back + tree.steps e.child) again used (record { here = o; under = n }) fits (λ z. absurd (omega arith)) in omega (arith, i)
 
   may_hold : (u used : ℕ) (es : List (Entry Plan)) → 0 < u → greatest (rest_peak tree.blocks u used) used es ≤ most → HoldsNone es ⊎ (can_hold tree most u used ≡ true)
   unfolding rest_peak
   may_hold u used [] some fits = inl tt
   may_hold u used (e ∷ es) some fits = by e.hold refl (may_hold u used es some (omega arith))
     where
-    by : (b : Bool) → e.hold ≡ b → HoldsNone es ⊎ (can_hold tree most u used ≡ true) → HoldsNone (e ∷ es) ⊎ (can_hold tree most u used ≡ true)
-    by false is (inl none) = inl (is, none)
-    by false is (inr can) = inr can
-    by true is _ =
-        let a = peak_above tree.blocks e.rest e.child (if e.hold then used + tree.blocks u else used) in
-        let b : (if e.hold then used + tree.blocks u else used) ≡ used + tree.blocks u = ap (λ b. if b then used + tree.blocks u else used) is in
-        inr (can_by u used some (omega (arith, a, b)))
+      by : (b : Bool) → e.hold ≡ b → HoldsNone es ⊎ (can_hold tree most u used ≡ true) → HoldsNone (e ∷ es) ⊎ (can_hold tree most u used ≡ true)
+      by false is (inl none) = inl (is, none)
+      by false is (inr can) = inr can
+      by true is _ =
+          let a = peak_above tree.blocks e.rest e.child (if e.hold then used + tree.blocks u else used) in
+          let b : (if e.hold then used + tree.blocks u else used) ≡ used + tree.blocks u = ap (λ b. if b then used + tree.blocks u else used) is in
+          inr (can_by u used some (omega (arith, a, b)))
 
   lower_by : (p : Plan) → AllByRecursion (λ e. Bounded e.rest) (entries_of p) → Bounded p
   unfolding Bounded bound
@@ -70,8 +69,8 @@ module _ (tree : Tree) (prices : Prices) (most end : ℕ) (grows : Grows tree en
       let top = rw (peak_parts tree.blocks p u used) at fits in
       let may : HoldsNone (entries_of p) ⊎ (can_hold tree most u used ≡ true) = elim (eq-zero-or-pos u) [ inl z ↦ inl (none z) | inr some ↦ may_hold u used (entries_of p) some top ] in
       rw (cost_parts tree prices p u back again)
-        (local_lower (choice depth u back again used) (rest_cost tree prices u back again) (can_hold tree most u used) (tree.children u) (entries_of p) order.here
-          (each_above depth u back again used (entries_of p) below orders under bounds top) may)
+      (local_lower (choice depth u back again used) (rest_cost tree prices u back again) (can_hold tree most u used) (tree.children u) (entries_of p) order.here
+      (each_above depth u back again used (entries_of p) below orders under bounds top) may)
 
   -- every plan of the class that fits costs at least the bound, at any depth
   pub lower : (p : Plan) (depth u back again used : ℕ) → IsPlanOf tree.children u p → peak_at tree.blocks p u used ≤ most → (u ≡ 0 → HoldsNone (entries_of p))

@@ -48,9 +48,9 @@ found_before back os i place most saving found lt is less = record {
   at = λ _. (let a = found.at (some i (ap (λ n. most_saved back (take n os))) found.is less) in (let b = a.0 in omega (arith, b), a.1));
 }
   where
-  some : (i : ℕ) → ((e : i ≡ 0) → most_saved back (take i os) ≡ most_saved back (take 0 os)) → most ≡ most_saved back (take i os) → saving < most → 0 < i
-  some zero same m less = absurd (omega (arith, m, less))
-  some (suc i) same m less = omega arith
+    some : (i : ℕ) → ((e : i ≡ 0) → most_saved back (take i os) ≡ most_saved back (take 0 os)) → most ≡ most_saved back (take i os) → saving < most → 0 < i
+    some zero same m less = absurd (omega (arith, m, less))
+    some (suc i) same m less = omega arith
 
 -- what the one that stands last saves is in the sum
 pub saving_in : (back : ℕ) (os : List Offer) → most_saved back os ≤ sum_by (offer_other back) os
@@ -78,9 +78,9 @@ module _ (c : Choice) (load : c.load ≡ 0) (save : c.save ≡ 0) where
   parts [] = tt
   parts (v ∷ vs) = let a = sum_by-cons (other c) v vs in (omega (arith, a), weaker vs (sum_by (other c) vs) (sum_by (other c) (v ∷ vs)) (omega (arith, a)) (parts vs))
     where
-    weaker : (xs : List ℕ) (m n : ℕ) → m ≤ n → AllByRecursion (λ z. other c z ≤ m) xs → AllByRecursion (λ z. other c z ≤ n) xs
-    weaker [] m n le h = tt
-    weaker (x ∷ xs) m n le (h, more) = (omega arith, weaker xs m n le more)
+      weaker : (xs : List ℕ) (m n : ℕ) → m ≤ n → AllByRecursion (λ z. other c z ≤ m) xs → AllByRecursion (λ z. other c z ≤ n) xs
+      weaker [] m n le h = tt
+      weaker (x ∷ xs) m n le (h, more) = (omega arith, weaker xs m n le more)
 
   times : (n r : ℕ) → suc n * r ≡ r + n * r
   times n r = omega arith

@@ -34,13 +34,12 @@ module _ (c : Choice) where
   step_other false true true child x s rest all h g = omega arith
   step_other true false any child x s rest all h g = let e : (if any && false then s else 0) ≡ 0 = off any s in omega arith
     where
-    off : (any : Bool) (s : ℕ) → (if any && false then s else 0) ≡ 0
-    off true s = refl
-    off false s = refl
+      off : (any : Bool) (s : ℕ) → (if any && false then s else 0) ≡ 0
+      off true s = refl
+      off false s = refl
   step_other true true any child x s rest all h g = omega arith
 
   module _ {X : Type 0} (each : Entry X → ℕ) where
-
     -- what an entry costs is at least what its child costs with its flag
     abbrev pub Above : Entry X → Type 0
     Above e = (if e.hold then c.held e.child else c.free e.child) ≤ each e
@@ -84,10 +83,10 @@ module _ (c : Choice) where
     none_or_any [] = inl tt
     none_or_any (e ∷ es) = by e.hold refl (none_or_any es)
       where
-      by : (b : Bool) → e.hold ≡ b → HoldsNone es ⊎ (any_holds es ≡ true) → HoldsNone (e ∷ es) ⊎ (any_holds (e ∷ es) ≡ true)
-      by true is _ = inr (ap (λ b. if b then true else any_holds es) is)
-      by false is (inl none) = inl (is, none)
-      by false is (inr some) = inr (ap (λ b. if b then true else any_holds es) is ∙ some)
+        by : (b : Bool) → e.hold ≡ b → HoldsNone es ⊎ (any_holds es ≡ true) → HoldsNone (e ∷ es) ⊎ (any_holds (e ∷ es) ≡ true)
+        by true is _ = inr (ap (λ b. if b then true else any_holds es) is)
+        by false is (inl none) = inl (is, none)
+        by false is (inr some) = inr (ap (λ b. if b then true else any_holds es) is ∙ some)
 
     -- the entry that stands last
     record Ending (P : ℕ → Type 0) (es : List (Entry X)) : Type 0 where
@@ -108,9 +107,9 @@ module _ (c : Choice) where
   least_below f (v ∷ []) = (omega arith, tt)
   least_below f (v ∷ w ∷ vs) = (omega arith, lower (w ∷ vs) (least_below f (w ∷ vs)))
     where
-    lower : (xs : List ℕ) → AllByRecursion (λ z. least_by f (w ∷ vs) ≤ f z) xs → AllByRecursion (λ z. min (f v) (least_by f (w ∷ vs)) ≤ f z) xs
-    lower [] h = tt
-    lower (x ∷ xs) (h, g) = (omega arith, lower xs g)
+      lower : (xs : List ℕ) → AllByRecursion (λ z. least_by f (w ∷ vs) ≤ f z) xs → AllByRecursion (λ z. min (f v) (least_by f (w ∷ vs)) ≤ f z) xs
+      lower [] h = tt
+      lower (x ∷ xs) (h, g) = (omega arith, lower xs g)
 
   module _ {X : Type 0} (each : Entry X → ℕ) where
     free_first : (vs : List ℕ) (es : List (Entry X)) → IsPermutation vs (named es) → HoldsNone es → AllByRecursion (Above each) es → all_free c vs ≤ total each false es
@@ -122,9 +121,9 @@ module _ (c : Choice) where
         let m = ap (λ n. (n - 1) * c.return) l in
         omega (arith, a, g, m)
       where
-      named_length : (es : List (Entry X)) → length (named es) ≡ length es
-      named_length [] = refl
-      named_length (e ∷ es) = ap suc (named_length es)
+        named_length : (es : List (Entry X)) → length (named es) ≡ length es
+        named_length [] = refl
+        named_length (e ∷ es) = ap suc (named_length es)
 
     some_first : (vs : List ℕ) (es : List (Entry X)) → IsPermutation vs (named es) → any_holds each es ≡ true → AllByRecursion (Above each) es → some_held c vs ≤ total each false es
     some_first vs [] orders some above = absurd (cc)
@@ -139,7 +138,8 @@ module _ (c : Choice) where
     pub local_lower : (can : Bool) (vs : List ℕ) (es : List (Entry X)) → IsPermutation vs (named es) → AllByRecursion (Above each) es
         → HoldsNone es ⊎ (can ≡ true) → local c can vs ≤ total each false es
     local_lower true vs es orders above may = elim (none_or_any each es) [
-        inl none ↦ let h = free_first vs es orders none above in omega (arith, h)
-      | inr some ↦ let h = some_first vs es orders some above in omega (arith, h) ]
+      | inl none ↦ let h = free_first vs es orders none above in omega (arith, h)
+      | inr some ↦ let h = some_first vs es orders some above in omega (arith, h)
+    ]
     local_lower false vs es orders above (inl none) = free_first vs es orders none above
     local_lower false vs es orders above (inr can) = absurd (cc)

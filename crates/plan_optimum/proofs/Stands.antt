@@ -124,5 +124,5 @@ may_is costs budget s r b some e is =
     let on : nat_lt 0 s.node ≡ true = positive s.node some in
     is ∙ ap (λ n. nat_le (s.used + n) budget.most) e ∙ sym (ap (λ t. t && nat_le (s.used + blocks_of costs budget.block s.node) budget.most) on)
   where
-  positive : (n : ℕ) → n ≢ 0 → nat_lt 0 n ≡ true
-  positive n some = grind (arith, nat_tests)
+    positive : (n : ℕ) → n ≢ 0 → nat_lt 0 n ≡ true
+    positive n some = grind (arith, nat_tests)

@@ -22,8 +22,8 @@ free_paid f back [] = omega arith
 free_paid f back (v ∷ vs) =
     let a = sum_by-cons f v vs in let b = sum_by-cons (λ v. f v + back) v vs in let i = free_paid f back vs in let m = times (length vs) back in omega (arith, a, b, i, m)
   where
-  times : (n b : ℕ) → suc n * b ≡ b + n * b
-  times n b = omega arith
+    times : (n b : ℕ) → suc n * b ≡ b + n * b
+    times n b = omega arith
 
 local_free : (c : Choice) (can : Bool) (vs : List ℕ) → local c can vs ≤ sum_by (λ v. c.free v + c.return) vs
 local_free c can vs =
@@ -31,9 +31,9 @@ local_free c can vs =
     let m = mul-le-mul_right c.return (let e : length vs - 1 ≤ length vs = omega arith in e) in
     by can (omega (arith, a, m))
   where
-  by : (can : Bool) → all_free c vs ≤ sum_by (λ v. c.free v + c.return) vs → local c can vs ≤ sum_by (λ v. c.free v + c.return) vs
-  by true h = omega (arith, h)
-  by false h = h
+    by : (can : Bool) → all_free c vs ≤ sum_by (λ v. c.free v + c.return) vs → local c can vs ≤ sum_by (λ v. c.free v + c.return) vs
+    by true h = omega (arith, h)
+    by false h = h
 
 module _ (costs : Costs) (sound : IsSound costs) (block most : ℕ) where
   unfoldable Fits : ℕ → Type 0
@@ -64,8 +64,8 @@ module _ (costs : Costs) (sound : IsSound costs) (block most : ℕ) where
       let p = paid depth u back used (fits_all depth) low in
       let l = local_free (choice (tree_of costs block) no_prices most depth u back 0 used) (can_hold (tree_of costs block) most u used) (children_of costs u) in
       let same : sum_by (λ v. (tree_of costs block).steps v + bound (tree_of costs block) no_prices most depth v (back + (tree_of costs block).steps v) 0 used + (back + 0)) (children_of costs u)
-            ≡ sum_by (λ v. (tree_of costs block).steps v + bound (tree_of costs block) no_prices most depth v (back + (tree_of costs block).steps v) 0 used + back) (children_of costs u)
-            = ap (λ n. sum_by (λ v. (tree_of costs block).steps v + bound (tree_of costs block) no_prices most depth v (back + (tree_of costs block).steps v) 0 used + n) (children_of costs u)) (let z : back + 0 ≡ back = omega arith in z) in
+      ≡ sum_by (λ v. (tree_of costs block).steps v + bound (tree_of costs block) no_prices most depth v (back + (tree_of costs block).steps v) 0 used + back) (children_of costs u)
+      = ap (λ n. sum_by (λ v. (tree_of costs block).steps v + bound (tree_of costs block) no_prices most depth v (back + (tree_of costs block).steps v) 0 used + n) (children_of costs u)) (let z : back + 0 ≡ back = omega arith in z) in
       omega (arith, p, l, same)
 
   pub value_small : (depth u back used : ℕ) → u ≤ length costs.rows → back ≤ u * 1000000 → bound (tree_of costs block) no_prices most depth u back 0 used < 2 ^ 62

@@ -1,3 +1,4 @@
 pub mod Bounds
 pub mod Offers
 pub mod Standings
+pub mod Built

@@ -3,5 +3,11 @@
 #![tactic(auto)]
 
 pub mod offer;
+pub mod optimum;
 pub mod standing;
 pub mod value;
+
+pub use optimum::least;
+
+#[cfg(test)]
+mod tests;

@@ -50,7 +50,12 @@ impl Standing {
         requires { IsBudget budget.now }
         ensures { result ≡ may_hold costs.now budget.now self.now }
     {
-        self.node != NodeId(0) && fits(self.used, costs.blocks(self.node, budget.block), budget.most)
+        self.node != NodeId(0)
+            && fits(
+                self.used,
+                costs.blocks(self.node, budget.block),
+                budget.most,
+            )
     }
 }
 

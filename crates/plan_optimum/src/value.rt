@@ -13,7 +13,13 @@ use std::alloc::Global;
 
 /// The least cost of the subtree that stands at `at`, as far as `depth` nodes down.
 #[cycle(value)]
-fn value(alloc: Global, costs: &Costs, budget: &Budget, depth: usize, at: &Standing) -> Result<u64, NoMemory>
+fn value(
+    alloc: Global,
+    costs: &Costs,
+    budget: &Budget,
+    depth: usize,
+    at: &Standing,
+) -> Result<u64, NoMemory>
     requires sound { IsSound costs.now }
     requires budget { IsBudget budget.now }
     requires stands { IsStanding costs.now at.now }
@@ -29,7 +35,13 @@ fn value(alloc: Global, costs: &Costs, budget: &Budget, depth: usize, at: &Stand
 /// What the children of the node offer, in rising order, each with its subtree as far as `depth`
 /// nodes down.
 #[cycle(value)]
-pub fn offers(alloc: Global, costs: &Costs, budget: &Budget, depth: usize, at: &Standing) -> Result<Vec<Offer>, NoMemory>
+pub fn offers(
+    alloc: Global,
+    costs: &Costs,
+    budget: &Budget,
+    depth: usize,
+    at: &Standing,
+) -> Result<Vec<Offer>, NoMemory>
     requires sound { IsSound costs.now }
     requires budget { IsBudget budget.now }
     requires stands { IsStanding costs.now at.now }
@@ -46,7 +58,15 @@ pub fn offers(alloc: Global, costs: &Costs, budget: &Budget, depth: usize, at: &
 
 /// What one child offers.
 #[cycle(value)]
-fn offer(alloc: Global, costs: &Costs, budget: &Budget, depth: usize, at: &Standing, child: NodeId, can: bool) -> Result<Offer, NoMemory>
+fn offer(
+    alloc: Global,
+    costs: &Costs,
+    budget: &Budget,
+    depth: usize,
+    at: &Standing,
+    child: NodeId,
+    can: bool,
+) -> Result<Offer, NoMemory>
     requires sound { IsSound costs.now }
     requires budget { IsBudget budget.now }
     requires stands { IsStanding costs.now at.now }
@@ -55,10 +75,27 @@ fn offer(alloc: Global, costs: &Costs, budget: &Budget, depth: usize, at: &Stand
     ensures { IfOk result (λ offer. offer ≡ offer_at (choice_of costs.now budget.now depth at.now) can child) }
 {
     let steps = costs.steps(child);
-    let free = steps + value(alloc, costs, budget, depth, &at.under(costs, budget, child, false))?;
+    let free = steps
+        + value(
+            alloc,
+            costs,
+            budget,
+            depth,
+            &at.under(costs, budget, child, false),
+        )?;
     if !can {
-        return Ok(Offer { free, held: free + at.back });
+        return Ok(Offer {
+            free,
+            held: free + at.back,
+        });
     }
-    let held = steps + value(alloc, costs, budget, depth, &at.under(costs, budget, child, true))?;
+    let held = steps
+        + value(
+            alloc,
+            costs,
+            budget,
+            depth,
+            &at.under(costs, budget, child, true),
+        )?;
     Ok(Offer { free, held })
 }

@@ -30,7 +30,7 @@ offer-overflow_add-held t c =
 pub offer-returns : goal.offer-returns
 offer-returns t c =
     offer_held c.args.costs.now c.args.budget.now c.args.depth c.args.at.now c.under.result c.under-2.result c.args.child c.steps-steps.result c.in_ok-free.field-0 c.in_ok-held.field-0 c.args.can (search rules)
-      c.steps-steps.ensures c.under.ensures.value c.in_ok-free.ensures c.under-2.ensures.value c.in_ok-held.ensures
+    c.steps-steps.ensures c.under.ensures.value c.in_ok-free.ensures c.under-2.ensures.value c.in_ok-held.ensures
 
 pub offers-offer-requires : goal.offers-offer-requires
 offers-offer-requires t c =
