@@ -1,3 +1,4 @@
+pub mod Levelled
 pub mod ListLemmas
 pub mod SpellingLemmas
 pub mod StatementLemmas
