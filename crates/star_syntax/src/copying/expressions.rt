@@ -7,6 +7,7 @@ use chex_base::NoMemory;
 use sqlite_items::{Boxed, Items};
 use std::alloc::Global;
 
+/// An equal expression.
 #[cycle(copy)]
 pub fn expr(alloc: Global, tree: &Expr) -> Result<Expr, NoMemory>
     ensures { IfOk result (λ copy. copy ≡ tree.now) }
@@ -61,6 +62,7 @@ fn boxed(alloc: Global, tree: &Expr) -> Result<Boxed<Expr>, NoMemory>
     Ok(Boxed::new(alloc, expr(alloc, tree)?)?)
 }
 
+/// Equal expressions, in order.
 #[cycle(copy)]
 pub fn exprs(alloc: Global, trees: &[Expr]) -> Result<Items<Expr>, NoMemory>
     ensures { IfOk result (λ copy. copy ≡ trees.now) }
@@ -133,6 +135,7 @@ fn arguments(alloc: Global, given: &Arguments<Expr>) -> Result<Arguments<Expr>, 
     })
 }
 
+/// Equal named values, in order.
 #[cycle(copy)]
 pub fn named(alloc: Global, all: &[Named<Expr>]) -> Result<Items<Named<Expr>>, NoMemory>
     ensures { IfOk result (λ copy. copy ≡ all.now) }

@@ -77,6 +77,7 @@ fn statement(alloc: Global, tree: &Statement) -> Result<Statement, NoMemory>
     })
 }
 
+/// Equal statements, in order.
 #[cycle(copy)]
 pub fn statements(alloc: Global, trees: &[Statement]) -> Result<Items<Statement>, NoMemory>
     ensures { IfOk result (λ copy. copy ≡ trees.now) }

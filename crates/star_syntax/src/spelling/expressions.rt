@@ -15,6 +15,7 @@ use crate::token::{Keyword, Mark, Token};
 use chex_base::NoMemory;
 use std::alloc::Global;
 
+/// Adds the tokens of an expression.
 #[cycle(spell)]
 #[tactic(auto, using(crate::proofs::SpellingLemmas::spelling_laws))]
 pub fn expr(alloc: Global, out: &mut Vec<Token>, tree: &Expr) -> Result<(), NoMemory>

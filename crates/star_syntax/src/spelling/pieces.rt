@@ -10,6 +10,7 @@ use crate::token::{Keyword, Mark, Token};
 use chex_base::{NoMemory, Text};
 use std::alloc::Global;
 
+/// Adds a mark.
 pub fn mark(out: &mut Vec<Token>, mark: Mark) -> Result<(), NoMemory>
     ensures { OnOk result (out.new.items ≡ out.old.items ++ Token.Mark mark ∷ []) }
 {
@@ -17,6 +18,7 @@ pub fn mark(out: &mut Vec<Token>, mark: Mark) -> Result<(), NoMemory>
     Ok(())
 }
 
+/// Adds a keyword.
 pub fn word(out: &mut Vec<Token>, word: Keyword) -> Result<(), NoMemory>
     ensures { OnOk result (out.new.items ≡ out.old.items ++ Token.Word word ∷ []) }
 {
@@ -24,6 +26,7 @@ pub fn word(out: &mut Vec<Token>, word: Keyword) -> Result<(), NoMemory>
     Ok(())
 }
 
+/// Adds a name.
 pub fn name(alloc: Global, out: &mut Vec<Token>, name: &Text) -> Result<(), NoMemory>
     ensures { OnOk result (out.new.items ≡ out.old.items ++ Token.Name name.now ∷ []) }
 {
@@ -62,6 +65,7 @@ pub fn names(alloc: Global, out: &mut Vec<Token>, all: &[Text]) -> Result<(), No
     Ok(())
 }
 
+/// Adds the signs of an operand.
 pub fn signs(out: &mut Vec<Token>, signs: &[UnaryOp]) -> Result<(), NoMemory>
     ensures { OnOk result (out.new.items ≡ out.old.items ++ map sign_token signs.now) }
 {
@@ -71,6 +75,7 @@ pub fn signs(out: &mut Vec<Token>, signs: &[UnaryOp]) -> Result<(), NoMemory>
     Ok(())
 }
 
+/// Adds `not` so many times.
 pub fn nots(out: &mut Vec<Token>, count: usize) -> Result<(), NoMemory>
     ensures { OnOk result (out.new.items ≡ out.old.items ++ replicate count (Token.Word Keyword.Not)) }
 {
@@ -99,6 +104,7 @@ pub fn comparison(out: &mut Vec<Token>, op: CompareOp) -> Result<(), NoMemory>
     }
 }
 
+/// The token of an operator of chains.
 pub fn chain_token(op: ChainOp) -> Token
     ensures { result ≡ chain_token op }
 {
@@ -134,6 +140,7 @@ fn binary_mark(op: BinaryOp) -> Mark
     }
 }
 
+/// The mark of an augmented assignment.
 pub fn augmented_mark(op: BinaryOp) -> Mark
     ensures { result ≡ augmented_mark op }
 {

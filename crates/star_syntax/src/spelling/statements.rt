@@ -84,6 +84,7 @@ fn statement(alloc: Global, out: &mut Vec<Token>, tree: &Statement) -> Result<()
     Ok(())
 }
 
+/// Adds the tokens of statements, in order.
 #[cycle(spell)]
 #[tactic(auto, using(crate::proofs::StatementLemmas::statement_laws))]
 pub fn statements(alloc: Global, out: &mut Vec<Token>, all: &[Statement]) -> Result<(), NoMemory>
