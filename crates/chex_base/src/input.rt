@@ -6,7 +6,7 @@ use std::alloc::Global;
 use std::marker::Model;
 
 /// A value that an input may have.
-#[derive(Drop)]
+#[derive(Debug, Drop)]
 pub enum Input {
     /// No value, `null` in a file.
     None,
@@ -18,7 +18,7 @@ pub enum Input {
 }
 
 /// A value that may stand in an input's list.
-#[derive(Drop)]
+#[derive(Debug, Drop)]
 pub enum InputItem {
     /// No value, `null` in a file.
     None,
@@ -28,7 +28,7 @@ pub enum InputItem {
 }
 
 /// The items of an input's list, in order, which contracts see as a list.
-#[derive(Drop)]
+#[derive(Debug, Drop)]
 pub struct InputList {
     items: Vec<InputItem>,
 }
@@ -50,6 +50,20 @@ impl InputList {
         InputList {
             items: Vec::new(alloc),
         }
+    }
+
+    /// The list of these items. It takes no memory.
+    pub fn from_vec(items: Vec<InputItem>) -> InputList
+        ensures { result ≡ items.items }
+    {
+        InputList { items }
+    }
+
+    /// The items again. It takes no memory.
+    pub fn into_vec(self) -> Vec<InputItem>
+        ensures { result.items ≡ self }
+    {
+        self.items
     }
 
     /// Adds an item at the end. A refused one is dropped, and the list stays as it was.

@@ -1,4 +1,4 @@
-//! Equality and order of texts.
+//! Equality and order of texts, and how a failed assertion shows one.
 ghost use Rattle.std.specs.Prelude.{bytes_eq};
 ghost use Rattle.std.specs.Cmp.{partial_equiv_from_equiv};
 ghost use Rattle.std.specs.Cmp.Lexicographic.{nat_list_cmp_total, nat_list_eq_equiv, texts_po, texts_ties};
@@ -8,6 +8,7 @@ ghost use Rattle.chex_base.specs.TextOrder.{text_cmp};
 
 use crate::Text;
 use std::cmp::Ordering;
+use std::fmt::{Debug, Error, Formatter, Write};
 
 /// Two texts are equal where their code points are.
 impl PartialEq for Text {
@@ -47,5 +48,12 @@ impl Ord for Text {
 
     fn cmp(&self, other: &Text) -> Ordering {
         self.as_str().cmp(other.as_str())
+    }
+}
+
+/// As Rust's own text, between quotes.
+impl Debug for Text {
+    fn fmt<W: Write>(&self, f: &mut Formatter<W>) -> Result<(), Error> {
+        self.as_str().fmt(f)
     }
 }

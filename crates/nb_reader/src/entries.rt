@@ -31,6 +31,20 @@ impl Entries {
         }
     }
 
+    /// The list of these versions. It takes no memory.
+    pub fn from_vec(entries: Vec<Entry>) -> Entries
+        ensures { result ≡ entries.items }
+    {
+        Entries { entries }
+    }
+
+    /// The versions again. It takes no memory.
+    pub fn into_vec(self) -> Vec<Entry>
+        ensures { result.items ≡ self }
+    {
+        self.entries
+    }
+
     /// Adds a version at the end. A refused one is dropped, and the versions stay as they were.
     pub fn add(&mut self, entry: Entry) -> Result<(), NoMemory>
         ensures ok { OnOk result (self.new ≡ self.old ++ entry ∷ []) }

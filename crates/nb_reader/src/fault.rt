@@ -22,7 +22,7 @@ pub enum Counted {
 
 /// The first reason for which a file is refused. Each reason comes exactly where docs/FORMATS.md
 /// has it first; want of memory can come in place of each answer. Indexes count from 1.
-#[derive(Drop)]
+#[derive(Debug, PartialEq, Eq, Drop)]
 pub enum NbFault {
     /// The bytes are no JSON value.
     NotJson,

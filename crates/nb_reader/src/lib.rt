@@ -20,3 +20,6 @@ pub use inputs::read_inputs;
 pub use manifest::{Entry, Manifest, read_manifest};
 pub use notebook::read_notebook;
 pub use sources::Sources;
+
+#[cfg(test)]
+mod tests;

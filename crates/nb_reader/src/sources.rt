@@ -30,6 +30,20 @@ impl Sources {
         }
     }
 
+    /// The sources of these texts. It takes no memory.
+    pub fn from_vec(texts: Vec<Text>) -> Sources
+        ensures { result ≡ texts.items }
+    {
+        Sources { texts }
+    }
+
+    /// The texts again. It takes no memory.
+    pub fn into_vec(self) -> Vec<Text>
+        ensures { result.items ≡ self }
+    {
+        self.texts
+    }
+
     /// Adds a source at the end. A refused one is dropped, and the sources stay as they were.
     pub fn add(&mut self, text: Text) -> Result<(), NoMemory>
         ensures ok { OnOk result (self.new ≡ self.old ++ text ∷ []) }

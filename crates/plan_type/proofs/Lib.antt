@@ -12,3 +12,5 @@ pub mod Widths
 pub mod SoundBelow
 pub mod Lines
 pub mod Writable
+pub mod Children
+pub mod Tested

@@ -1,6 +1,6 @@
 -- The lines of a plan's entries, and how deep they stand.
-use Rattle.std.proofs.Common.{◌≡◌, ◌∙◌, ℕ, zero, suc, ◌+◌, ◌^◌, ◌<◌, ◌≤◌, List, [], ◌∷◌, ◌++◌, max, take, get_or, length, append_assoc, Bool, true, false, refl, sym, ap, subst, arith}
-use Rattle.std.specs.Prelude.{if◌then◌else◌, codes, decimal, nat_lt, ◌&&◌}
+use Rattle.std.proofs.Common.{◌≡◌, ◌∙◌, ℕ, zero, suc, ◌+◌, ◌^◌, ◌<◌, ◌≤◌, List, [], ◌∷◌, ◌++◌, take, get_or, length, append_assoc, Bool, true, false, refl, sym, ap, arith}
+use Rattle.std.specs.Prelude.{codes, decimal, nat_lt, ◌&&◌}
 use Rattle.std.proofs.lemmas.Bool.Decides.{nat_tests}
 use Rattle.std.specs.List.{flat_map, list_all}
 use Rattle.std.specs.Str.{chars, IsAscii}
@@ -8,11 +8,11 @@ use Rattle.std.proofs.lemmas.List.{take_more, append-nil}
 use Rattle.std.proofs.lemmas.Fmt.{IsAscii-decimal}
 use Rattle.std.proofs.lemmas.Str.{IsAscii-append, chars-IsAscii}
 use Rattle.std.proofs.lemmas.Str.Ascii.{IsAscii-nil, IsAscii-cons}
-use Rattle.plan_type.specs.declared.plan.Plan.{Plan, map-Plan, fold_out-Plan}
+use Rattle.plan_type.specs.declared.plan.Plan.{Plan, fold_out-Plan}
 use Rattle.plan_type.specs.declared.plan.Entry.{Entry}
 use Rattle.plan_type.specs.Plan.{entries_of}
 use Rattle.plan_type.specs.PlanText.{flag_of, line_of, entry_lines, layer_lines, lines_at, deepest, layer_depth, depth_of}
-use Rattle.plan_type.proofs.PlanParts.{later, with_rest}
+use Rattle.plan_type.proofs.PlanParts.{later}
 
 -- the lines of one entry, over whole plans
 unfoldable pub rest_lines : ℕ → Entry Plan → List ℕ

@@ -6,8 +6,8 @@ use Rattle.plan_type.specs.declared.plan.Plan.{Plan, out-Plan, roll-Plan, out-ro
 use Rattle.plan_type.specs.declared.plan.Plan.TheOpen.{Plan-F}
 use Rattle.plan_type.specs.declared.plan.Entry.{Entry}
 use Rattle.plan_type.specs.Costs.{Tree}
-use Rattle.plan_type.specs.Operations.{Ops, Listing, before, listed_ops, remake, entry_ops, layer_ops, way_back, ops_at}
-use Rattle.plan_type.specs.declared.operations.Operation.TheVariants.{Compute, Restore}
+use Rattle.plan_type.specs.Operations.{Ops, Listing, before, listed_ops, entry_ops, layer_ops, way_back, ops_at}
+use Rattle.plan_type.specs.declared.operations.Operation.TheVariants.{Compute}
 use Rattle.plan_type.specs.Plan.{entries_of, LayerOrders, greatest, Peaking, entry_peak, layer_peak, peak_at}
 use Rattle.plan_type.specs.Prices.{Prices, listed_cost, Costing, entry_cost, layer_cost, cost_at}
 

@@ -1,7 +1,7 @@
 -- A plan's operations compute every reached node; and what is proved of the whole list.
 use Rattle.std.proofs.Common.{◌≡◌, ◌∙◌, ℕ, ◌≤◌, List, [], ◌∷◌, ◌++◌, Bool, true, false, ◌||◌, length, ◌+◌, refl, ap, arith, inl}
 use Rattle.std.specs.Prelude.{if◌then◌else◌, ◌==◌}
-use Rattle.std.specs.List.{AllByRecursion, Contains}
+use Rattle.std.specs.List.{AllByRecursion}
 use Rattle.std.proofs.lemmas.List.Sorted.{All-permutation, IsPermutation-sym}
 use Rattle.std.proofs.lemmas.List.Elements.{All-from_recursion, All-contains}
 use Rattle.std.proofs.lemmas.Bool.Decides.{nat_tests}
@@ -10,8 +10,8 @@ use Rattle.plan_type.specs.declared.plan.Entry.{Entry}
 use Rattle.plan_type.specs.declared.operations.Operation.TheVariants.{Reset}
 use Rattle.plan_type.specs.declared.budget.Budget.{Budget}
 use Rattle.plan_type.specs.declared.costs.Costs.{Costs}
-use Rattle.plan_type.specs.Costs.{Tree, tree_of, children_of, steps_of, blocks_of, IsReached, IsSound}
-use Rattle.plan_type.specs.Plan.{named, entries_of, is_none, Orders, LayerOrders, IsPlanOf, IsPlan, HoldsNone, work, work_at, peak, peak_at}
+use Rattle.plan_type.specs.Costs.{Tree, tree_of, IsSound}
+use Rattle.plan_type.specs.Plan.{named, entries_of, is_none, Orders, LayerOrders, IsPlanOf, IsPlan, HoldsNone, peak, peak_at}
 use Rattle.plan_type.specs.Prices.{Prices, no_prices, cost_at}
 use Rattle.plan_type.specs.Operations.{Ops, before, listed_ops, ops_at, way_back, operations_of, start, after, after_all, LegalAll, computes, computes_one, CarriesOut}
 use Rattle.plan_type.proofs.Sound.{Grows, grows}

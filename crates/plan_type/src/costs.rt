@@ -1,11 +1,12 @@
 //! The costs of all nodes of the merged tree.
-ghost use Rattle.std.specs.Prelude.{◌≡◌, ◌≤◌, ◌^◌, ◌↔◌, IsTrue};
+ghost use Rattle.std.specs.Prelude.{◌≡◌, ◌≤◌, ◌^◌, ◌++◌, ◌↔◌, [], ◌∷◌, length, cond, IsTrue, IfOk, OnOk};
 ghost use Rattle.std.specs.Option.{option_copied};
-ghost use Rattle.plan_type.specs.Costs.{row_of, steps_of, blocks_of, cuts, Accords, IsSoundRow, IsSound};
+ghost use Rattle.plan_type.specs.Costs.{row_of, steps_of, blocks_of, children_of, is_child_in, cuts, IsSoundRow, IsSound};
 
 use crate::row::{Reach, Row};
-use chex_base::NodeId;
+use chex_base::{NoMemory, NodeId};
 use sqlite_items::Items;
+use std::alloc::Global;
 
 /// The most nodes of a merged tree.
 const MOST_NODES: usize = 512;
@@ -56,6 +57,30 @@ impl Costs {
         }
     }
 
+    /// The reached children of a node, in rising order; it takes one pass over the rows.
+    pub fn children(&self, alloc: Global, of: NodeId) -> Result<Vec<NodeId>, NoMemory>
+        requires { length self.now.rows ≤ 512 }
+        ensures { IfOk result (λ children. children.items ≡ children_of self.now of) }
+    {
+        let mut children = Vec::new(alloc);
+        let end = self.rows.len() as u32 + 1;
+        for number in 1..end {
+            let node = NodeId(number);
+            push_if(&mut children, node, self.is_child(of, node))?;
+        }
+        Ok(children)
+    }
+
+    /// Whether one node is a reached child of another.
+    fn is_child(&self, of: NodeId, node: NodeId) -> bool
+        ensures { result ≡ is_child_in of (row_of self.now node) }
+    {
+        match self.row(node) {
+            Some(row) => row.parent == of && row.end.is_reached(),
+            None => false,
+        }
+    }
+
     /// Whether these are the costs of a merged tree: at most 512 rows; each parent below its
     /// node; no path longer than 64 nodes; a row unreached exactly where its parent is failed or
     /// unreached; a reached row with 1 to 1,000,000 steps; failed rows with 0 bytes; unreached
@@ -100,4 +125,13 @@ impl Costs {
             None => false,
         }
     }
+}
+
+fn push_if(nodes: &mut Vec<NodeId>, node: NodeId, wanted: bool) -> Result<(), NoMemory>
+    ensures { OnOk result (nodes.new.items ≡ nodes.old.items ++ cond wanted (node ∷ []) []) }
+{
+    if wanted {
+        nodes.push(node)?;
+    }
+    Ok(())
 }

@@ -17,3 +17,6 @@ pub use operations::{Operation, Operations};
 pub use plan::{Entries, Entry, Plan};
 pub use row::{Reach, Row};
 pub use text::write_plan;
+
+#[cfg(test)]
+mod tests;

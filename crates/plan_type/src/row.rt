@@ -1,7 +1,7 @@
 //! What is known of one node of the merged tree.
 ghost use Rattle.std.specs.Prelude.{◌≡◌, ◌≤◌, ◌^◌, ◌↔◌, IsTrue};
 ghost use Rattle.std.specs.Int.{div_ceil};
-ghost use Rattle.plan_type.specs.Costs.{is_unreached, Accords};
+ghost use Rattle.plan_type.specs.Costs.{is_reached, is_unreached, Accords};
 
 use chex_base::NodeId;
 
@@ -32,6 +32,13 @@ pub struct Row {
 }
 
 impl Reach {
+    /// Whether the node runs.
+    pub(crate) fn is_reached(self) -> bool
+        ensures { result ≡ is_reached self }
+    {
+        self != Reach::Unreached
+    }
+
     /// Whether the node never runs.
     pub(crate) fn is_unreached(self) -> bool
         ensures { result ≡ is_unreached self }

@@ -63,12 +63,7 @@ pub fn eval(alloc: Global, run: &mut Run, expr: &Expr) -> Result<Value, Stop>
 /// A value, and what the further operands of its chain make of it.
 #[cycle(eval)]
 #[tactic(auto, using(crate::proofs::Cases::cases))]
-fn chained(
-    alloc: Global,
-    run: &mut Run,
-    value: Value,
-    links: &[Link<Expr>],
-) -> Result<Value, Stop>
+fn chained(alloc: Global, run: &mut Run, value: Value, links: &[Link<Expr>]) -> Result<Value, Stop>
     ensures { Gives (spec.chained (map spec.link_work links.now) value run.old) result run.new }
 {
     let mut value = value;

@@ -24,12 +24,7 @@ pub fn statements(alloc: Global, run: &mut Run, statements: &[Statement]) -> Res
 
 /// Runs a statement, which may be the last of its cell.
 #[tactic(auto, unfolding(crate::specs::Meaning::statement_of))]
-fn statement(
-    alloc: Global,
-    run: &mut Run,
-    last: bool,
-    statement: &Statement,
-) -> Result<(), Halt>
+fn statement(alloc: Global, run: &mut Run, last: bool, statement: &Statement) -> Result<(), Halt>
     ensures { Halts (spec.statement_of last statement.now run.old) result run.new }
 {
     match statement {

@@ -1,4 +1,4 @@
-use Rattle.std.proofs.Common.{rules, arith, ◌≡◌, ◌++◌, ◌∙◌, ◌+◌, ap, sym, append_assoc}
+use Rattle.std.proofs.Common.{rules, ◌++◌, ◌∙◌, ◌+◌, ap, sym, append_assoc}
 use Rattle.std.specs.List.{flat_map}
 use Rattle.std.specs.Str.{chars}
 use Rattle.std.proofs.lemmas.List.{take_all}

@@ -1,4 +1,4 @@
-use Rattle.std.proofs.Common.{rules, arith, ◌≡◌, ◌≢◌, ◌<◌, ◌≤◌, ◌+◌, ◌∙◌, sym, ap, length, get_or, refl}
+use Rattle.std.proofs.Common.{rules, arith, ◌+◌, ap, length, get_or, refl}
 use Rattle.plan_type.specs.Costs.{IsSoundRow}
 use Rattle.plan_type.proofs.SoundBelow.{SoundBelow, item_row, below_none, below_more, below_all, too_long, upto}
 use Rattle.plan_type.proofs.costs.Costs.sound.Goals as goal

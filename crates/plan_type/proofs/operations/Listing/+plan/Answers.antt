@@ -1,9 +1,8 @@
-use Rattle.std.proofs.Common.{rules, arith, ◌≡◌, ◌<◌, ◌+◌, ◌-◌, ◌∙◌, ◌++◌, length, drop, ap, sym, nat_eq, refl, [], ◌∷◌}
+use Rattle.std.proofs.Common.{rules, arith, ◌≡◌, ◌+◌, ◌-◌, ◌∙◌, ◌++◌, length, drop, ap, nat_eq, refl, [], ◌∷◌}
 use Rattle.std.specs.Prelude.{if◌then◌else◌}
 use Rattle.plan_type.specs.declared.plan.Plan.{the_lemmas}
 use Rattle.plan_type.specs.Costs.{tree_of, steps_of, blocks_of}
-use Rattle.plan_type.specs.Operations.{before, listed_ops, way_back}
-use Rattle.plan_type.proofs.PlanParts.{rest_ops}
+use Rattle.plan_type.specs.Operations.{before, way_back}
 use Rattle.plan_type.proofs.Listed.{room_at, ops_from, entry_done, popped, turned, begins_within}
 use Rattle.plan_type.proofs.operations.Listing.+plan.Goals as goal
 

@@ -1,9 +1,8 @@
-use Rattle.std.proofs.Common.{rules, arith, ◌≡◌, ◌≤◌, ◌<◌, ◌*◌, ◌+◌, length, ap}
+use Rattle.std.proofs.Common.{rules, arith, ◌<◌, ◌+◌, length, ap}
 use Rattle.std.specs.Prelude.{if◌then◌else◌}
 use Rattle.plan_type.specs.declared.plan.Plan.{the_lemmas}
 use Rattle.plan_type.specs.Costs.{steps_of}
 use Rattle.plan_type.specs.Plan.{work_at, listed_work, IsPlanFrom}
-use Rattle.plan_type.proofs.Sound.{steps_small}
 use Rattle.plan_type.proofs.Works.{rest_work, work_parts}
 use Rattle.plan_type.proofs.Entries.{at_one}
 use Rattle.plan_type.proofs.plan.Plan.+cost_from.Goals as goal

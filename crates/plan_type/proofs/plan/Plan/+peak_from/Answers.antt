@@ -1,7 +1,7 @@
-use Rattle.std.proofs.Common.{rules, arith, ◌≡◌, ◌∙◌, sym, ap}
+use Rattle.std.proofs.Common.{rules, arith, ap}
 use Rattle.plan_type.specs.declared.plan.Plan.{the_lemmas}
 use Rattle.plan_type.specs.Costs.{blocks_of}
-use Rattle.plan_type.specs.Plan.{greatest, peak_at, IsWithin}
+use Rattle.plan_type.specs.Plan.{greatest}
 use Rattle.plan_type.proofs.PlanParts.{rest_peak, peak_parts, greatest_above}
 use Rattle.plan_type.proofs.Entries.{entry_at, greatest_step, peak_one, within_more}
 use Rattle.plan_type.proofs.plan.Plan.+peak_from.Goals as goal

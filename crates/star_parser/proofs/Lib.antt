@@ -1,0 +1,4 @@
+pub mod ThinSteps
+pub mod ThinLaws
+pub mod ThinLoop
+pub mod Names
