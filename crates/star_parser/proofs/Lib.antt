@@ -2,3 +2,8 @@ pub mod ThinSteps
 pub mod ThinLaws
 pub mod ThinLoop
 pub mod Names
+pub mod Exact
+pub mod Rules
+pub mod Steps
+pub mod Turns
+pub mod First

@@ -1,1 +1,7 @@
 pub mod ThinReading
+pub mod Reading
+pub mod Tables
+pub mod Readers
+pub mod Ends
+pub mod Starts
+pub mod Verdict
