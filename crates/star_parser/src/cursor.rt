@@ -19,12 +19,14 @@ pub struct Cursor<'a> {
 }
 
 impl<'a> Cursor<'a> {
+    /// How many tokens are left.
     pub fn left(&self) -> usize
         ensures { result ≡ length self.now.rest.now }
     {
         self.rest.len()
     }
 
+    /// The next token, if there is one.
     pub fn peek(&self) -> Option<&'a Token>
         ensures { option_copied result ≡ reading.next self.now.rest.now }
     {
@@ -34,6 +36,7 @@ impl<'a> Cursor<'a> {
         }
     }
 
+    /// Passes the next token; at the end it does nothing.
     pub fn skip(&mut self)
         ensures { self.new.rest.now ≡ reading.rest self.old.rest.now }
     {
@@ -42,6 +45,7 @@ impl<'a> Cursor<'a> {
         }
     }
 
+    /// Whether the next token is this mark.
     #[tactic(auto, unfolding(crate::specs::Tables::is_mark))]
     pub fn sees(&self, mark: Mark) -> bool
         ensures { result ≡ spec.is_mark mark (reading.next self.now.rest.now) }
@@ -52,6 +56,7 @@ impl<'a> Cursor<'a> {
         }
     }
 
+    /// Passes the next token where it is this mark, and says whether it was.
     pub fn eat(&mut self, mark: Mark) -> bool
         ensures { spec.eat mark self.old.rest.now ≡ Ok (result, self.new.rest.now) }
     {
@@ -62,6 +67,7 @@ impl<'a> Cursor<'a> {
         found
     }
 
+    /// Passes this mark, or refuses the next token.
     pub fn expect(&mut self, mark: Mark) -> Result<(), Fault>
         ensures { Reads (spec.expect mark self.old.rest.now) result self.new.rest.now }
     {
@@ -73,6 +79,7 @@ impl<'a> Cursor<'a> {
         }
     }
 
+    /// Whether the next token is this keyword.
     #[tactic(auto, unfolding(crate::specs::Tables::is_word))]
     pub fn sees_word(&self, word: Keyword) -> bool
         ensures { result ≡ spec.is_word word (reading.next self.now.rest.now) }
@@ -83,6 +90,7 @@ impl<'a> Cursor<'a> {
         }
     }
 
+    /// Passes the next token where it is this keyword, and says whether it was.
     pub fn eat_word(&mut self, word: Keyword) -> bool
         ensures { spec.eat_word word self.old.rest.now ≡ Ok (result, self.new.rest.now) }
     {
@@ -93,6 +101,7 @@ impl<'a> Cursor<'a> {
         found
     }
 
+    /// Passes this keyword, or refuses the next token.
     pub fn expect_word(&mut self, word: Keyword) -> Result<(), Fault>
         ensures { Reads (spec.expect_word word self.old.rest.now) result self.new.rest.now }
     {

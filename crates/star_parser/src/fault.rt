@@ -1,6 +1,7 @@
 //! Why a rule reads no tree.
 use chex_base::NoMemory;
 
+/// Why a rule of the grammar reads no tree. At `Unexpected` the cursor stands at the refused token.
 #[derive(Clone, Copy, Debug, PartialEq, Eq)]
 pub enum Fault {
     NoMemory,

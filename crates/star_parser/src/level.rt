@@ -1,6 +1,6 @@
 //! The levels of expressions.
 
-/// The lines of the grammar from `test` down to `primary`.
+/// The lines of the grammar from `test` down to `primary`, loosest first; each is named after its operators.
 #[derive(Clone, Copy, Debug, PartialEq, Eq)]
 pub enum Level {
     Test,
