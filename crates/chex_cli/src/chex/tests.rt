@@ -1,6 +1,9 @@
 //! Rows over files and sinks in memory.
 use super::*;
 use chex_base::{Calls, Files, MemoryLibrary, MemorySink, Text};
+use star_eval::{End, Failure, Globals, run_cell};
+use star_lexer::lex;
+use star_parser::parse_thin;
 use std::test::Fail;
 
 /// A notebook with this one code cell, whose source is given as JSON writes it.
@@ -113,6 +116,9 @@ fn words_and_devices_are_refused(rt: HostRuntime) -> Result<(), Fail> {
             Status::ReadFault,
             "error: reading a.ipynb failed\n",
         ),
+        // One read and one write are made: a failing second call of either is never met.
+        ("solo a.ipynb", 2, 0, Status::Done, "3\n"),
+        ("solo a.ipynb", 0, 2, Status::Done, "3\n"),
         ("solo a.ipynb", 0, 1, Status::WriteFault, ""),
         ("solo", 0, 1, Status::WriteFault, ""),
     ] {
@@ -121,6 +127,43 @@ fn words_and_devices_are_refused(rt: HostRuntime) -> Result<(), Fail> {
         let finish = chex(alloc, &words(alloc, line)?, &mut library, &mut out);
         assert_eq!(rt; out.bytes.as_slice(), written.as_bytes());
         assert_eq!(rt; finish.status, status);
+    }
+    Ok(())
+}
+
+#[test]
+fn steps_are_counted(rt: HostRuntime) -> Result<(), Fail> {
+    let alloc = rt.alloc();
+    let too_few = End::Failed(Failure::StepLimit, 1);
+    let unbound = End::Failed(Failure::Unbound, 2);
+    for (source, allowance, end, out, steps) in [
+        // The cell 1, the statement 1, the name 1, the numbers 2, the sum 1, the call 1, the code points 2.
+        ("print(1 + 2)", 1_000_000, End::Done, "3\n", 9),
+        ("print(1 + 2)", 9, End::Done, "3\n", 9),
+        ("print(1 + 2)", 8, too_few, "", 8),
+        ("print(1 + 2)", 1, too_few, "", 1),
+        // The cell 1, the statement 1, the number 1; the statement 1, the name 1.
+        ("x = 1\nx = y", 1_000_000, unbound, "", 5),
+        ("", 1_000_000, End::Done, "", 1),
+    ] {
+        assert!(rt; source.len() <= 65_536);
+        assert!(rt; allowance >= 1);
+        let tokens = match lex(alloc, source) {
+            Ok(tokens) => tokens,
+            Err(_) => return Err(Fail::from(std::alloc::AllocError)),
+        };
+        let Some(module) = parse_thin(alloc, tokens.as_slice())? else {
+            return Err(Fail::from(std::alloc::AllocError));
+        };
+        let mut globals = Globals::new(alloc);
+        match run_cell(alloc, &mut globals, &module, allowance) {
+            Ok(ran) => {
+                assert_eq!(rt; ran.end, end);
+                assert_eq!(rt; ran.out.as_str(), out);
+                assert_eq!(rt; ran.steps, steps);
+            }
+            Err(_) => assert!(rt; false),
+        }
     }
     Ok(())
 }
