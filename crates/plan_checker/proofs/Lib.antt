@@ -8,3 +8,4 @@ pub mod Numbered
 pub mod Class
 pub mod Fits
 pub mod Accepted
+pub mod OneReading

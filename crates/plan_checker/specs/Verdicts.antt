@@ -22,6 +22,13 @@ pub record IsVerdict (costs : Costs) (budget : Budget) (text : List ℕ) (v : Ve
 unfoldable pub over_budget : Costs → Budget → List Line → Option (ℕ × ℕ)
 over_budget costs budget lines = first_over (blocks_of costs budget.block) budget.most [] lines
 
+-- the text is read, and nothing refuses its lines
+pub record Clean (costs : Costs) (budget : Budget) (text : List ℕ) : Type 0 where
+  pub lines : List Line
+  pub read : IsRead text lines
+  pub right : wrong_child costs lines ≡ None
+  pub fits : over_budget costs budget lines ≡ None
+
 -- faults in their order; want of memory may come at any text
 abbrev pub IsDue : Costs → Budget → List ℕ → CheckFault → Type 0
 IsDue costs budget text (NotPlan line) = IsFaultyLine text line

@@ -1,12 +1,13 @@
 //! Checking a plan text.
-ghost use Rattle.std.specs.Prelude.{◌≡◌, ◌≤◌, ◌⊎◌, length, IfOk, IfErr, IsOk, Err};
+ghost use Rattle.std.specs.Prelude.{◌≡◌, ◌≢◌, ◌≤◌, ◌⊎◌, length, IfOk, OnOk, IfErr, IsOk, Err};
 ghost use Rattle.plan_type.specs.declared.plan.Plan.{Plan};
 ghost use Rattle.plan_type.specs.Budget.{IsBudget};
 ghost use Rattle.plan_type.specs.Costs.{IsSound};
 ghost use Rattle.plan_type.specs.Plan.{Serves};
 ghost use Rattle.plan_type.specs.PlanText.{text_of};
 ghost use Rattle.plan_checker.specs.declared.fault.CheckFault.{CheckFault};
-ghost use Rattle.plan_checker.specs.Verdicts.{IsVerdict, IsDue};
+ghost use Rattle.plan_checker.specs.declared.fault.CheckFault.TheVariants.{NoMemory};
+ghost use Rattle.plan_checker.specs.Verdicts.{IsVerdict, IsDue, Clean};
 
 use crate::build::build;
 use crate::fault::CheckFault;
@@ -27,6 +28,7 @@ pub struct Verdict {
     pub peak: u64,
 }
 
+#[tactic(auto, using(crate::proofs::OneReading::all_due))]
 /// The plan that a text tells, with its cost and its peak, or the first fault; the rules stand in
 /// docs/FORMATS.md. It takes one pass over the bytes and a few over the lines.
 pub fn check(
@@ -41,6 +43,22 @@ pub fn check(
     ensures ok { IfOk result (IsVerdict costs.now budget.now text.now) }
 
     // A fault comes only where it is due.
+    ensures err { IfErr result (IsDue costs.now budget.now text.now) }
+
+    // A fault that is due is answered, unless memory is wanting.
+    ensures due { (fault : CheckFault) → IsDue costs.now budget.now text.now fault → fault ≢ NoMemory
+        → (result ≡ Err fault) ⊎ (result ≡ Err NoMemory) }
+{
+    judged(alloc, costs, budget, text)
+}
+
+/// The verdict, and that an accepted text has no fault.
+fn judged(alloc: Global, costs: &Costs, budget: &Budget, text: &[u8]) -> Result<Verdict, CheckFault>
+    requires sound { IsSound costs.now }
+    requires budget { IsBudget budget.now }
+    requires size { length text.now ≤ 16777216 }
+    ensures ok { IfOk result (IsVerdict costs.now budget.now text.now) }
+    ensures clean { OnOk result (Clean costs.now budget.now text.now) }
     ensures err { IfErr result (IsDue costs.now budget.now text.now) }
 {
     let lines = read(alloc, text)?;
