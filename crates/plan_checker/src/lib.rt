@@ -12,3 +12,6 @@ pub mod wrong;
 
 pub use fault::CheckFault;
 pub use verdict::{Verdict, check};
+
+#[cfg(test)]
+mod tests;
