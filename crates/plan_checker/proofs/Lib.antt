@@ -1,0 +1,11 @@
+pub mod Numbers
+pub mod Readings
+pub mod Tables
+pub mod Missing
+pub mod Built
+pub mod Owners
+pub mod Numbered
+pub mod Class
+pub mod Fits
+pub mod Accepted
+pub mod OneReading
