@@ -18,6 +18,26 @@ fn done(parent: u32, steps: u64, bytes: u64) -> Row {
     }
 }
 
+fn unreached(parent: u32) -> Row {
+    Row {
+        parent: NodeId(parent),
+        end: Reach::Unreached,
+        steps: 0,
+        bytes: 0,
+        text: [0; 32],
+    }
+}
+
+fn failed(parent: u32, steps: u64) -> Row {
+    Row {
+        parent: NodeId(parent),
+        end: Reach::Failed,
+        steps,
+        bytes: 0,
+        text: [7; 32],
+    }
+}
+
 /// What is expected of a text: its cost and its peak, or its fault.
 type Expected = Result<(u64, u64), CheckFault>;
 
@@ -207,5 +227,17 @@ fn verdicts(rt: HostRuntime) -> Result<(), Fail> {
         "the first of two holds",
         nested,
         over(1, 1),
+    )?;
+    let cut = Costs {
+        rows: Items::from_slice(alloc, &[failed(0, 5), unreached(1)])?,
+    };
+    run(
+        &rt,
+        alloc,
+        &cut,
+        1,
+        "an unreached node",
+        "chex-plan 1\n1 1 free\n2 2 free\n",
+        wrong(2),
     )
 }
