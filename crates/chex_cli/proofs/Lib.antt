@@ -1,3 +1,4 @@
-pub mod DueLemmas
+pub mod ReadLemmas
 pub mod SourceLemmas
-pub mod YieldLemmas
+pub mod ZipLemmas
+pub mod TextLemmas

@@ -1,3 +1,5 @@
-pub mod Thin
+pub mod Words
+pub mod Refusals
+pub mod Reads
 pub mod Due
-pub mod Ends
+pub mod Thin

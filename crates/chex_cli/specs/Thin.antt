@@ -1,19 +1,22 @@
--- The notebooks that run, and the text that one prints.
-use Rattle.std.specs.Prelude.{◌≡◌, ◌≤◌, ℕ, List, [], ◌∷◌, ◌++◌, length, map, Ok, Some, codes}
+-- The versions that run, and the text that they print.
+use Rattle.std.specs.Prelude.{◌≡◌, ◌≤◌, ◌+◌, ℕ, Bool, true, false, List, [], ◌∷◌, ◌++◌, length, Option, Some, option_map, option_and_then, codes}
+use Rattle.std.specs.List.{AllZip}
 use Rattle.std.specs.Fmt.{decimal}
 use Rattle.std.specs.Str.{encode_utf8_all}
 use Rattle.star_syntax.specs.declared.statement.Module.{Module}
 use Rattle.star_syntax.specs.declared.token.Spanned.{Spanned}
-use Rattle.star_syntax.specs.Thin.{IsThinCell, ThinLine, statement_tree}
+use Rattle.star_syntax.specs.Thin.{IsThinCell}
 use Rattle.star_lexer.specs.Tokens.{Tokens}
-use Rattle.star_eval.specs.declared.cell.Ran.{Ran}
 use Rattle.star_eval.specs.declared.cell.End.{End}
 use Rattle.star_eval.specs.declared.cell.End.TheVariants as end
 use Rattle.star_eval.specs.declared.failure.Failure.{Failure}
 use Rattle.star_eval.specs.declared.failure.Failure.TheVariants as failure
 use Rattle.star_eval.specs.State.{State}
 use Rattle.star_eval.specs.Meaning.{run_cell}
-use Rattle.nb_reader.specs.Notebook.{notebook_of}
+use Rattle.chex_report.specs.Headers.{header_of}
+use Rattle.chex_cli.specs.declared.version.Version.{Version}
+use Rattle.chex_cli.specs.declared.version.Job.{Job}
+use Rattle.chex_cli.specs.declared.thin.Runnable.{Runnable}
 
 -- the source's tokens spell a thin cell, whose tree this is
 pub record IsThinSource (source : List ℕ) (module' : Module) : Type 0 where
@@ -25,16 +28,16 @@ pub record IsThinSource (source : List ℕ) (module' : Module) : Type 0 where
 abbrev pub IsShortThin : List ℕ → Module → Type 0
 IsShortThin source module' = (length (encode_utf8_all source) ≤ 65536) × IsThinSource source module'
 
--- the bytes are a notebook whose one code cell is thin, and this is its tree
-pub record IsThinFile (bytes : List ℕ) (module' : Module) : Type 0 where
-  pub few : length bytes ≤ 16777216
-  pub source : List ℕ
-  pub notebook : notebook_of bytes ≡ Ok (source ∷ [])
-  pub thin : IsShortThin source module'
+-- the trees are those of the version's cells, in order, all of which are thin
+abbrev pub IsRunnable : Version → Runnable → Type 0
+IsRunnable version run = (run.name ≡ version.name) × AllZip IsShortThin version.sources run.modules
 
--- the tree is that of thin lines
-abbrev pub IsThinModule : Module → Type 0
-IsThinModule module' = (lines : List (ℕ × ThinLine)) × (module'.statements ≡ map statement_tree lines)
+abbrev pub AreRunnable : List Version → List Runnable → Type 0
+AreRunnable = AllZip IsRunnable
+
+-- some cell is not thin
+abbrev pub IsNotThin : Job → Type 0
+IsNotThin job = (runs : List Runnable) → AreRunnable job.versions runs → ⊥
 
 -- how a failure is named in the text of a version
 unfoldable pub failure_name : Failure → List ℕ
@@ -62,14 +65,26 @@ failure_name failure.StepLimit = codes "StepLimit"
 abbrev pub failed_text : ℕ → Failure → ℕ → List ℕ
 failed_text cell why line = codes "error: " ++ failure_name why ++ codes " at cell " ++ decimal cell ++ codes " line " ++ decimal line ++ codes "\n"
 
-abbrev pub end_text : ℕ → End → List ℕ
-end_text cell end.Done = []
-end_text cell (end.Failed why line) = failed_text cell why line
+-- the text of a cell that ran, before what the cells after it write; a failure ends the version
+abbrev pub text_by : ℕ → List ℕ → End → Option (List ℕ) → Option (List ℕ)
+text_by cell out end.Done rest = option_map (λ more. encode_utf8_all out ++ more) rest
+text_by cell out (end.Failed why line) rest = Some (encode_utf8_all out ++ failed_text cell why line)
 
--- the text of a cell that ran, in bytes
-abbrev pub ran_text : ℕ → Ran → List ℕ
-ran_text cell ran = encode_utf8_all ran.out ++ end_text cell ran.end
+-- the text of cells that run one after the other, the first of which has this number, from these globals; each sees the globals that the one before it left
+unfoldable pub version_text : ℕ → State → List Module → Option (List ℕ)
+version_text cell globals [] = Some []
+version_text cell globals (m ∷ ms) = option_and_then (λ p. text_by cell p.0.out p.0.end (version_text (cell + 1) p.1 ms)) (run_cell m 1000000 globals)
 
--- a notebook of this one cell, run alone from no globals, prints this text
-abbrev pub Prints : Module → List ℕ → Type 0
-Prints module' text = (ran : Ran) × (after : State) × (run_cell module' 1000000 [] ≡ Some (ran, after)) × (text ≡ ran_text 1 ran)
+-- the line before a version's text, where versions have one
+abbrev pub front : Bool → List ℕ → List ℕ
+front true name = encode_utf8_all (header_of name)
+front false name = []
+
+-- a version alone, from no globals
+abbrev pub run_text : Bool → Runnable → Option (List ℕ)
+run_text headed run = option_map (λ text. front headed run.name ++ text) (version_text 1 [] run.modules)
+
+-- the versions in order
+unfoldable pub job_text : Bool → List Runnable → Option (List ℕ)
+job_text headed [] = Some []
+job_text headed (run ∷ runs) = option_and_then (λ text. option_map (λ rest. text ++ rest) (job_text headed runs)) (run_text headed run)

@@ -1,51 +1,88 @@
-//! The text that a notebook prints.
-ghost use Rattle.std.specs.Prelude.{◌≡◌, ◌++◌, ◌∷◌, [], Some, IfOk, OnOk, string_bytes, map};
-ghost use Rattle.star_syntax.specs.Thin.{statement_tree};
+//! The text that versions print.
+ghost use Rattle.std.specs.Prelude.{◌≡◌, [], IfOk, option_map, string_bytes};
 ghost use Rattle.chex_cli.specs.Thin as spec;
-ghost use Rattle.chex_cli.specs.Thin.{IsThinFile, Prints};
 
-use chex_base::NoMemory;
-use star_eval::{End, Failure, Globals, Ran, RunFault, run_cell};
+use crate::thin::Runnable;
+use chex_base::{NoMemory, Text};
+use chex_report::header;
+use star_eval::{End, Failure, Globals, RunFault, run_cell};
 use star_syntax::Module;
 use std::alloc::Global;
 
 /// How many steps a cell may take.
 const MOST_STEPS: u64 = 1_000_000;
 
-/// The text of a notebook of this one cell, run alone from no globals.
-pub fn printed(alloc: Global, module: &Module) -> Result<String, NoMemory>
-    requires { spec.IsThinModule module.now }
-    ensures { IfOk result (λ text. Prints module.now (string_bytes text)) }
+/// The text of versions in order, each run alone from no globals. None where a cell has no meaning
+/// yet, which no thin cell is.
+pub fn job_text(
+    alloc: Global,
+    headed: bool,
+    runs: &[Runnable],
+) -> Result<Option<String>, NoMemory>
+    ensures { IfOk result (λ text. option_map string_bytes text ≡ spec.job_text headed runs.now) }
+{
+    let mut text = String::new(alloc);
+    for run in runs {
+        match run_text(alloc, headed, run)? {
+            None => return Ok(None),
+            Some(more) => text.push_str(more.as_str())?,
+        }
+    }
+    Ok(Some(text))
+}
+
+/// The text of one version alone.
+fn run_text(alloc: Global, headed: bool, run: &Runnable) -> Result<Option<String>, NoMemory>
+    ensures { IfOk result (λ text. option_map string_bytes text ≡ spec.run_text headed run.now) }
+{
+    let mut text = front(alloc, headed, &run.name)?;
+    match version_text(alloc, run.modules.as_slice())? {
+        None => Ok(None),
+        Some(more) => {
+            text.push_str(more.as_str())?;
+            Ok(Some(text))
+        }
+    }
+}
+
+/// The line before a version's text, where versions have one.
+fn front(alloc: Global, headed: bool, name: &Text) -> Result<String, NoMemory>
+    ensures { IfOk result (λ text. string_bytes text ≡ spec.front headed name.now) }
+{
+    if headed {
+        let line = header(alloc, name)?;
+        Ok(String::from_str(alloc, line.as_str())?)
+    } else {
+        Ok(String::new(alloc))
+    }
+}
+
+/// The text of cells, run one after the other from no globals, up to the first that fails.
+fn version_text(alloc: Global, modules: &[Module]) -> Result<Option<String>, NoMemory>
+    ensures { IfOk result (λ text. option_map string_bytes text ≡ spec.version_text 1 [] modules.now) }
 {
     let mut globals = Globals::new(alloc);
-    match run_cell(alloc, &mut globals, module, MOST_STEPS) {
-        Ok(ran) => ran_text(alloc, 1, &ran),
-        Err(RunFault::NoMemory) => Err(NoMemory),
-        Err(RunFault::Undefined) => unreachable!(),
+    let mut text = String::new(alloc);
+    for (place, module) in modules.iter().enumerate() {
+        let ran = match run_cell(alloc, &mut globals, module, MOST_STEPS) {
+            Ok(ran) => ran,
+            Err(RunFault::Undefined) => return Ok(None),
+            Err(RunFault::NoMemory) => return Err(NoMemory),
+        };
+        text.push_str(ran.out.as_str())?;
+        match ran.end {
+            End::Done => {}
+            End::Failed(failure, line) => {
+                let failed = failed_text(alloc, place + 1, failure, line)?;
+                text.push_str(failed.as_str())?;
+                return Ok(Some(text));
+            }
+        }
     }
+    Ok(Some(text))
 }
 
-/// The text of a cell that ran.
-fn ran_text(alloc: Global, cell: u32, ran: &Ran) -> Result<String, NoMemory>
-    ensures { IfOk result (λ text. string_bytes text ≡ spec.ran_text cell ran.now) }
-{
-    let mut text = String::from_str(alloc, ran.out.as_str())?;
-    let end = end_text(alloc, cell, ran.end)?;
-    text.push_str(end.as_str())?;
-    Ok(text)
-}
-
-/// The line that a failed cell adds.
-fn end_text(alloc: Global, cell: u32, end: End) -> Result<String, NoMemory>
-    ensures { IfOk result (λ text. string_bytes text ≡ spec.end_text cell end) }
-{
-    match end {
-        End::Done => Ok(String::new(alloc)),
-        End::Failed(failure, line) => failed_text(alloc, cell, failure, line),
-    }
-}
-
-fn failed_text(alloc: Global, cell: u32, failure: Failure, line: u32) -> Result<String, NoMemory>
+fn failed_text(alloc: Global, cell: usize, failure: Failure, line: u32) -> Result<String, NoMemory>
     ensures { IfOk result (λ text. string_bytes text ≡ spec.failed_text cell failure line) }
 {
     let name = failure_name(failure);
