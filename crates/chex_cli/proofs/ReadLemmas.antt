@@ -97,10 +97,10 @@ front_found n name file bytes past front short =
     let all : length file ≤ n = omega (arith, length-take n file) in
     let same : file ≡ bytes = sym (take_all n file all) ∙ front in
     subst (λ (b : List ℕ). counted name b ≡ Ok bytes) (sym same) (few (nat_lt 16777216 (length bytes)) refl)
-    where
-      few : (b : Bool) → nat_lt 16777216 (length bytes) ≡ b → counted name bytes ≡ Ok bytes
-      few true is = let past : 16777216 < length bytes = ltb-true 16777216 (length bytes) is in absurd (omega arith)
-      few false is = ap (λ b. if b then Err (BadFile name (TooMany count.Bytes 16777217)) else Ok bytes) is
+  where
+    few : (b : Bool) → nat_lt 16777216 (length bytes) ≡ b → counted name bytes ≡ Ok bytes
+    few true is = let past : 16777216 < length bytes = ltb-true 16777216 (length bytes) is in absurd (omega arith)
+    few false is = ap (λ b. if b then Err (BadFile name (TooMany count.Bytes 16777217)) else Ok bytes) is
 
 front_long : (n : ℕ) (name file bytes : List ℕ) → take n file ≡ bytes → 16777216 < length bytes → counted name file ≡ Err (BadFile name (TooMany count.Bytes 16777217))
 front_long n name file bytes front long =
@@ -142,7 +142,7 @@ prepend front (Err r) = Err r
 pub counted_later : (r : Refusal) (a0 a1 a2 f0 f1 f2 : ℕ) → a0 ≤ a1 → f0 ≤ f1 → IsCounted r a1 a2 f1 f2 → IsCounted r a0 a2 f0 f2
 counted_later (Absent file) a0 a1 a2 f0 f1 f2 a f h = omega arith
 counted_later (ReadFailed file) a0 a1 a2 f0 f1 f2 a f h = omega arith
-counted_later Usage a0 a1 a2 f0 f1 f2 a f h = tt
+counted_later Usage a0 a1 a2 f0 f1 f2 a f h = absurd h
 counted_later (BadFile file fault) a0 a1 a2 f0 f1 f2 a f h = tt
 counted_later NoMemory a0 a1 a2 f0 f1 f2 a f h = tt
 
@@ -168,10 +168,10 @@ module _ (told : Option Told) where
       pure (record { name = entry.name; sources = sources; inputs = inputs }))) sources (Ok (record { name = entry.name; sources = sources; inputs = inputs })) same read
       (told_after now now (λ t. inputs_at t entry.inputs) (λ _ inputs. pure (record { name = entry.name; sources = sources; inputs = inputs })) inputs
       (Ok (record { name = entry.name; sources = sources; inputs = inputs })) refl h (all now))
-      where
-        all : (o : Option Told) → IfSome o (λ t. (pure {T = Version} (record { name = entry.name; sources = sources; inputs = inputs })).1 ≡ Ok (record { name = entry.name; sources = sources; inputs = inputs }))
-        all None = tt
-        all (Some t) = refl
+    where
+      all : (o : Option Told) → IfSome o (λ t. (pure {T = Version} (record { name = entry.name; sources = sources; inputs = inputs })).1 ≡ Ok (record { name = entry.name; sources = sources; inputs = inputs }))
+      all None = tt
+      all (Some t) = refl
 
 -- versions in order
 abbrev pub Onward : Told → List Version → List Entry → List Entry → Type 0

@@ -7,8 +7,8 @@ use Rattle.nb_reader.specs.declared.manifest.Manifest.{Manifest}
 use Rattle.nb_reader.specs.Notebook.{notebook_of}
 use Rattle.nb_reader.specs.Manifest.{manifest_of}
 use Rattle.nb_reader.specs.Inputs.{inputs_file_of}
-use Rattle.chex_cli.specs.declared.words.Command.{Command}
-use Rattle.chex_cli.specs.declared.words.Command.TheVariants.{Solo, Alone}
+use Rattle.chex_cli.specs.declared.command.Command.{Command}
+use Rattle.chex_cli.specs.declared.command.Command.TheVariants.{Solo, Alone}
 use Rattle.chex_cli.specs.declared.version.Version.{Version}
 use Rattle.chex_cli.specs.declared.version.Job.{Job}
 use Rattle.chex_cli.specs.declared.refusal.Refusal.TheVariants.{Usage}

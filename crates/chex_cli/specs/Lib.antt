@@ -3,3 +3,4 @@ pub mod Refusals
 pub mod Reads
 pub mod Due
 pub mod Thin
+pub mod Ends

@@ -58,10 +58,10 @@ abbrev pub Answers : {T : Type 0} → Read T → Result T Refusal → Type 0
 Answers read (Ok x) = read.1 ≡ Ok x
 Answers read (Err r) = Refuses read r
 
--- an absent file comes only where the count of absences rose, and a failed read only where that of faults did
+-- the refusal is one of files: an absent file comes only where the count of absences rose, and a failed read only where that of faults did
 abbrev pub IsCounted : Refusal → ℕ → ℕ → ℕ → ℕ → Type 0
 IsCounted (Absent file) absences_old absences_new faults_old faults_new = Rose absences_old absences_new
 IsCounted (ReadFailed file) absences_old absences_new faults_old faults_new = Rose faults_old faults_new
-IsCounted Usage absences_old absences_new faults_old faults_new = Unit {0}
+IsCounted Usage absences_old absences_new faults_old faults_new = ⊥
 IsCounted (BadFile file fault) absences_old absences_new faults_old faults_new = Unit {0}
 IsCounted NoMemory absences_old absences_new faults_old faults_new = Unit {0}

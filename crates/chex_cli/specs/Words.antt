@@ -1,8 +1,8 @@
 -- The words after the program's name, each as the bytes of its text.
 use Rattle.std.specs.Prelude.{ℕ, List, [], ◌∷◌, Option, Some, None, codes, bytes_eq, if◌then◌else◌}
 use Rattle.std.specs.Str.{chars}
-use Rattle.chex_cli.specs.declared.words.Command.{Command}
-use Rattle.chex_cli.specs.declared.words.Command.TheVariants.{Solo, Alone}
+use Rattle.chex_cli.specs.declared.command.Command.{Command}
+use Rattle.chex_cli.specs.declared.command.Command.TheVariants.{Solo, Alone}
 
 -- `solo FILE` and `alone FILE` are commands, and nothing else is
 abbrev pub command_of : List (List ℕ) → Option Command

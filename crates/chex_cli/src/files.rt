@@ -1,14 +1,17 @@
 //! Reads the files that the words name, in order and each anew, up to the first refusal.
-ghost use Rattle.std.specs.Prelude.{◌≡◌, ◌≤◌, Ok, IfOk, IfErr, IfSome, map, string_bytes};
+ghost use Rattle.std.specs.Prelude.{◌≡◌, ◌≤◌, ◌⊎◌, None, Ok, Err, IfOk, IfErr, IfSome, map, string_bytes};
 ghost use Rattle.chex_cli.specs.Reads as reads;
 ghost use Rattle.chex_cli.specs.Reads.{Answers, Refuses, IsCounted};
 ghost use Rattle.chex_cli.specs.Due as spec;
+ghost use Rattle.chex_cli.specs.Words.{command_of};
 
+use crate::command::{Command, command_of};
 use crate::refusal::{Refusal, bad_file};
 use crate::version::{Job, Version, Versions};
-use crate::words::{Command, command_of};
 use chex_base::{Found, Inputs, Library, NoMemory, Text};
-use nb_reader::{Counted, Entry, Manifest, NbFault, Sources, read_inputs, read_manifest, read_notebook};
+use nb_reader::{
+    Counted, Entry, Manifest, NbFault, Sources, read_inputs, read_manifest, read_notebook,
+};
 use std::alloc::Global;
 
 /// The most bytes of a file.
@@ -16,13 +19,10 @@ const MOST_FILE: usize = 16_777_216;
 
 /// What the words and the files that they name call for.
 #[tactic(auto, unfolding(crate::specs::Due::due))]
-pub fn due<L: Library>(
-    alloc: Global,
-    words: &[String],
-    library: &mut L,
-) -> Result<Job, Refusal>
+pub fn due<L: Library>(alloc: Global, words: &[String], library: &mut L) -> Result<Job, Refusal>
     ensures due { IfSome (L.files library.old) (λ file. Answers (spec.due file (map string_bytes words.now)) result) }
-    ensures counted { IfErr result (λ r. IsCounted r (L.absences library.old) (L.absences library.new) (L.faults library.old) (L.faults library.new)) }
+    ensures counted { IfErr result (λ r. ((r ≡ Refusal.Usage) × (command_of (map string_bytes words.now) ≡ None)) ⊎ IsCounted r (L.absences library.old) (L.absences library.new) (L.faults library.old) (L.faults library.new)) }
+    ensures usage { command_of (map string_bytes words.now) ≡ None → (result ≡ Err Refusal.Usage) ⊎ (result ≡ Err Refusal.NoMemory) }
 {
     match command_of(alloc, words)? {
         None => Err(Refusal::Usage),

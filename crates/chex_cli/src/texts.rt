@@ -14,11 +14,7 @@ const MOST_STEPS: u64 = 1_000_000;
 
 /// The text of versions in order, each run alone from no globals. None where a cell has no meaning
 /// yet, which no thin cell is.
-pub fn job_text(
-    alloc: Global,
-    headed: bool,
-    runs: &[Runnable],
-) -> Result<Option<String>, NoMemory>
+pub fn job_text(alloc: Global, headed: bool, runs: &[Runnable]) -> Result<Option<String>, NoMemory>
     ensures { IfOk result (λ text. option_map string_bytes text ≡ spec.job_text headed runs.now) }
 {
     let mut text = String::new(alloc);

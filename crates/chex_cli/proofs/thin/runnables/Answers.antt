@@ -16,10 +16,10 @@ loop-version-preserved c =
     (record { name = c.in_ok-copy.field-0; modules = c.in-Some.modules }) c.loop-version-test.true c.version-item.is c.loop-version.invariant
     (c.in_ok-copy.ensures, rw (← c.as_slice.ensures) sound)
     (λ run one.
-        let both : Some c.in-Some.modules ≡ Some run.modules = sym c.in-Some.is ∙ c.in_ok-modules.ensures.complete run.modules (rw c.as_slice.ensures one.1) in
-        let trees : run.modules ≡ c.in-Some.modules = cc in
-        let names : run.name ≡ c.in_ok-copy.field-0 = one.0 ∙ sym c.in_ok-copy.ensures in
-        rw (names, trees) refl))
+    let both : Some c.in-Some.modules ≡ Some run.modules = sym c.in-Some.is ∙ c.in_ok-modules.ensures.complete run.modules (rw c.as_slice.ensures one.1) in
+    let trees : run.modules ≡ c.in-Some.modules = cc in
+    let names : run.name ≡ c.in_ok-copy.field-0 = one.0 ∙ sym c.in_ok-copy.ensures in
+    rw (names, trees) refl))
 
 pub returns-clause-complete : goal.returns-clause-complete
 returns-clause-complete c = λ runs are.

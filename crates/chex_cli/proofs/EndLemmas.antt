@@ -1,0 +1,215 @@
+-- What is due, and what is left where a status is due.
+use Rattle.std.proofs.Common.{◌≡◌, ◌≢◌, ◌⊎◌, ◌≤◌, ◌+◌, ℕ, Bool, List, [], ◌∷◌, ◌++◌, Option, Some, None, Result, Ok, Err, sym, ◌∙◌, ap, subst, refl, inl, inr, codes}
+use Rattle.std.specs.Prelude.{IfSome, option_map, option_and_then}
+use Rattle.std.specs.List.{AllZip}
+use Rattle.chex_base.specs.Outside.{Rose}
+use Rattle.chex_base.specs.declared.status.Status.{Status}
+use Rattle.chex_base.specs.declared.status.Status.TheVariants as ended
+use Rattle.nb_reader.specs.declared.fault.NbFault.{NbFault}
+use Rattle.nb_reader.specs.declared.fault.NbFault.TheVariants as broken
+use Rattle.star_syntax.specs.declared.statement.Module.{Module}
+use Rattle.star_eval.specs.declared.cell.Ran.{Ran}
+use Rattle.star_eval.specs.declared.cell.End.{End}
+use Rattle.star_eval.specs.declared.cell.End.TheVariants as end
+use Rattle.star_eval.specs.State.{State}
+use Rattle.star_eval.specs.Meaning.{run_cell}
+use Rattle.star_eval.proofs.ThinRuns.{thin_runs}
+use Rattle.chex_cli.specs.declared.refusal.Refusal.{Refusal}
+use Rattle.chex_cli.specs.declared.refusal.Refusal.TheVariants.{Usage, Absent, ReadFailed, BadFile, NoMemory}
+use Rattle.chex_cli.specs.declared.version.Job.{Job}
+use Rattle.chex_cli.specs.declared.version.Version.{Version}
+use Rattle.chex_cli.specs.declared.thin.Runnable.{Runnable}
+use Rattle.chex_cli.specs.Words.{command_of}
+use Rattle.chex_cli.specs.Refusals.{status_of, file_status, line_of}
+use Rattle.chex_cli.specs.Reads.{Told, Refuses, Answers, IsCounted}
+use Rattle.chex_cli.specs.Due.{due}
+use Rattle.chex_cli.specs.Thin.{IsShortThin, IsRunnable, AreRunnable, IsNotThin, text_by, version_text, run_text, job_text, front}
+use Rattle.chex_cli.specs.Ends.{IsRun, IsNotBuilt, IsRefused, IsDue, Yields}
+
+file_write_fault : (fault : NbFault) → file_status fault ≡ ended.WriteFault → ⊥
+file_write_fault broken.NotJson h = cc
+file_write_fault broken.NotObject h = cc
+file_write_fault (broken.WrongFormat found) h = cc
+file_write_fault broken.NoCells h = cc
+file_write_fault (broken.BadCell index) h = cc
+file_write_fault broken.NoVersions h = cc
+file_write_fault (broken.BadVersion index) h = cc
+file_write_fault (broken.RepeatedName name) h = cc
+file_write_fault (broken.BadInput name) h = cc
+file_write_fault (broken.TooMany what count) h = cc
+file_write_fault broken.NoMemory h = cc
+
+refusal_write_fault : (r : Refusal) → status_of r ≡ ended.WriteFault → ⊥
+refusal_write_fault Usage h = cc
+refusal_write_fault (Absent file) h = cc
+refusal_write_fault (ReadFailed file) h = cc
+refusal_write_fault (BadFile file fault) h = file_write_fault fault h
+refusal_write_fault NoMemory h = cc
+
+-- a failed write is never due
+pub due_write_fault : (told : Option Told) (words : List (List ℕ)) (status : Status) (text : List ℕ) → IsDue told words status text → status ≡ ended.WriteFault → ⊥
+due_write_fault told words status text is h = elim is [
+  | inl run ↦ let both : ended.Done ≡ ended.WriteFault = sym run.0 ∙ h in cc
+  | inr (inl not) ↦ let both : ended.NotBuilt ≡ ended.WriteFault = sym not.0 ∙ h in cc
+  | inr (inr why) ↦ refusal_write_fault why.why (sym why.status_is ∙ h)
+]
+
+-- counts, by the status of a refusal
+file_absent : (fault : NbFault) → file_status fault ≡ ended.Absent → ⊥
+file_absent broken.NotJson h = cc
+file_absent broken.NotObject h = cc
+file_absent (broken.WrongFormat found) h = cc
+file_absent broken.NoCells h = cc
+file_absent (broken.BadCell index) h = cc
+file_absent broken.NoVersions h = cc
+file_absent (broken.BadVersion index) h = cc
+file_absent (broken.RepeatedName name) h = cc
+file_absent (broken.BadInput name) h = cc
+file_absent (broken.TooMany what count) h = cc
+file_absent broken.NoMemory h = cc
+
+file_read_fault : (fault : NbFault) → file_status fault ≡ ended.ReadFault → ⊥
+file_read_fault broken.NotJson h = cc
+file_read_fault broken.NotObject h = cc
+file_read_fault (broken.WrongFormat found) h = cc
+file_read_fault broken.NoCells h = cc
+file_read_fault (broken.BadCell index) h = cc
+file_read_fault broken.NoVersions h = cc
+file_read_fault (broken.BadVersion index) h = cc
+file_read_fault (broken.RepeatedName name) h = cc
+file_read_fault (broken.BadInput name) h = cc
+file_read_fault (broken.TooMany what count) h = cc
+file_read_fault broken.NoMemory h = cc
+
+module _ (a0 a1 f0 f1 : ℕ) (words : List (List ℕ)) where
+  pub absent_counted : (r : Refusal) → ((r ≡ Usage) × (command_of words ≡ None)) ⊎ IsCounted r a0 a1 f0 f1 → status_of r ≡ ended.Absent → Rose a0 a1
+  absent_counted Usage h is = cc
+  absent_counted (Absent file) (inl h) is = cc
+  absent_counted (Absent file) (inr h) is = h
+  absent_counted (ReadFailed file) h is = cc
+  absent_counted (BadFile file fault) h is = absurd (file_absent fault is)
+  absent_counted NoMemory h is = cc
+
+  pub read_counted : (r : Refusal) → ((r ≡ Usage) × (command_of words ≡ None)) ⊎ IsCounted r a0 a1 f0 f1 → status_of r ≡ ended.ReadFault → Rose f0 f1
+  read_counted Usage h is = cc
+  read_counted (Absent file) h is = cc
+  read_counted (ReadFailed file) (inl h) is = cc
+  read_counted (ReadFailed file) (inr h) is = h
+  read_counted (BadFile file fault) h is = absurd (file_read_fault fault is)
+  read_counted NoMemory h is = cc
+
+  pub usage_worded : (r : Refusal) → ((r ≡ Usage) × (command_of words ≡ None)) ⊎ IsCounted r a0 a1 f0 f1 → r ≡ Usage → command_of words ≡ None
+  usage_worded r (inl h) is = h.1
+  usage_worded r (inr h) is = absurd (subst (λ (r : Refusal). IsCounted r a0 a1 f0 f1) is h)
+
+-- thin cells have a text
+thin_module : (source : List ℕ) (m : Module) (allowance : ℕ) (globals : State) → IsShortThin source m → run_cell m allowance globals ≡ None → ⊥
+thin_module source m allowance globals thin none = thin_runs m thin.1.cell.lines allowance globals thin.1.cell.tree none
+
+text_by_some : (cell : ℕ) (out : List ℕ) (e : End) (rest : Option (List ℕ)) → (rest ≡ None → ⊥) → text_by cell out e rest ≡ None → ⊥
+text_by_some cell out end.Done None some h = some refl
+text_by_some cell out end.Done (Some more) some h = cc
+text_by_some cell out (end.Failed why line) rest some h = cc
+
+version_some : (cell : ℕ) (globals : State) (sources : List (List ℕ)) (ms : List Module) → AllZip IsShortThin sources ms → version_text cell globals ms ≡ None → ⊥
+unfolding version_text
+version_some cell globals sources [] thin h = cc
+version_some cell globals [] (m ∷ ms) thin h = absurd thin
+version_some cell globals (source ∷ sources) (m ∷ ms) thin h = by (λ after. version_some (cell + 1) after sources ms thin.1) (run_cell m 1000000 globals) refl h
+  where
+    by : ((after : State) → version_text (cell + 1) after ms ≡ None → ⊥) → (o : Option (Ran × State)) → run_cell m 1000000 globals ≡ o
+        → option_and_then (λ p. text_by cell p.0.out p.0.end (version_text (cell + 1) p.1 ms)) o ≡ None → ⊥
+    by more None is none = thin_module source m 1000000 globals thin.0 is
+    by more (Some p) is none = text_by_some cell p.0.out p.0.end (version_text (cell + 1) p.1 ms) (more p.1) none
+
+mapped_some : (f : List ℕ → List ℕ) (o : Option (List ℕ)) → (o ≡ None → ⊥) → option_map f o ≡ None → ⊥
+mapped_some f None some h = some refl
+mapped_some f (Some x) some h = cc
+
+pub job_some : (headed : Bool) (versions : List Version) (runs : List Runnable) → AreRunnable versions runs → job_text headed runs ≡ None → ⊥
+unfolding job_text
+job_some headed versions [] are h = cc
+job_some headed [] (run ∷ runs) are h = absurd are
+job_some headed (version ∷ versions) (run ∷ runs) are h = by (job_some headed versions runs are.1) (run_text headed run) refl h
+  where
+    by : (job_text headed runs ≡ None → ⊥) → (o : Option (List ℕ)) → run_text headed run ≡ o → option_and_then (λ text. option_map (λ rest. text ++ rest) (job_text headed runs)) o ≡ None → ⊥
+    by more None is none = mapped_some (λ text. front headed run.name ++ text) (version_text 1 [] run.modules) (version_some 1 [] version.sources run.modules are.0.1) is
+    by more (Some text) is none = mapped_some (λ rest. text ++ rest) (job_text headed runs) more none
+
+same_job : (i j : Job) (x : Result Job Refusal) → x ≡ Ok i → x ≡ Ok j → i ≡ j
+same_job i j x h k = cc
+
+-- what a decision yields where the files are told
+module _ (file : Told) (words : List (List ℕ)) (status : Status) (text : List ℕ) (is : IsDue (Some file) words status text) where
+  refusal_yields : (why r : Refusal) → why ≢ NoMemory → status ≡ status_of why → Refuses (due file words) why → (due file words).1 ≡ Err r → Yields (status_of r) status
+  refusal_yields Usage r some same h h' = let one : Usage ≡ r = cc in inl (same ∙ ap status_of one)
+  refusal_yields (Absent f) r some same h h' = let one : Absent f ≡ r = cc in inl (same ∙ ap status_of one)
+  refusal_yields (ReadFailed f) r some same h h' = inr (inr (inl same))
+  refusal_yields (BadFile f fault) r some same h h' = let one : BadFile f fault ≡ r = cc in inl (same ∙ ap status_of one)
+  refusal_yields NoMemory r some same h h' = absurd (some refl)
+
+  refusal_stops : (due_status : Status) (why : Refusal) (job : Job) → why ≢ NoMemory → status ≡ status_of why → Refuses (due file words) why → (due file words).1 ≡ Ok job → Yields due_status status
+  refusal_stops due_status Usage job some same h h' = cc
+  refusal_stops due_status (Absent f) job some same h h' = cc
+  refusal_stops due_status (ReadFailed f) job some same h h' = inr (inr (inl same))
+  refusal_stops due_status (BadFile f fault) job some same h h' = cc
+  refusal_stops due_status NoMemory job some same h h' = absurd (some refl)
+
+  pub refused_yields : (r : Refusal) → (due file words).1 ≡ Err r → Yields (status_of r) status
+  refused_yields r h = elim is [
+    | inl run ↦ let both : Ok run.1.job ≡ Err r = sym run.1.read ∙ h in cc
+    | inr (inl not) ↦ let both : Ok not.2.job ≡ Err r = sym not.2.read ∙ h in cc
+    | inr (inr why) ↦ refusal_yields why.why r why.some why.status_is why.is_due h
+  ]
+
+  pub not_built_yields : (job : Job) → (due file words).1 ≡ Ok job → IsNotThin job → Yields ended.NotBuilt status
+  not_built_yields job h not_thin = elim is [
+    | inl run ↦ absurd (not_thin run.1.runs (subst (λ (j : Job). AreRunnable j.versions run.1.runs) (same_job run.1.job job (due file words).1 run.1.read h) run.1.thin))
+    | inr (inl not) ↦ inl not.0
+    | inr (inr why) ↦ refusal_stops ended.NotBuilt why.why job why.some why.status_is why.is_due h
+  ]
+  pub done_yields : (job : Job) (runs : List Runnable) → (due file words).1 ≡ Ok job → AreRunnable job.versions runs → Yields ended.Done status
+  done_yields job runs h are = elim is [
+    | inl run ↦ inl run.0
+    | inr (inl not) ↦ absurd (not.2.not_thin runs (subst (λ (j : Job). AreRunnable j.versions runs) (same_job job not.2.job (due file words).1 h not.2.read) are))
+    | inr (inr why) ↦ refusal_stops ended.Done why.why job why.some why.status_is why.is_due h
+  ]
+-- what is due where versions were read, and where a refusal came
+pub job_due : (told : Option Told) (words : List (List ℕ)) (job : Job) (status : Status) (text : List ℕ) → IfSome told (λ file. (due file words).1 ≡ Ok job)
+    → ((status ≡ ended.Done) × (runs : List Runnable) × AreRunnable job.versions runs × (job_text job.headed runs ≡ Some text)) ⊎ ((status ≡ ended.NotBuilt) × (text ≡ codes "error: not built\n") × IsNotThin job)
+    → IsDue told words status text
+job_due None words job status text read (inl run) = inl (run.0, tt)
+job_due (Some file) words job status text read (inl run) = inl (run.0, record { job = job; read = read; runs = run.1; thin = run.2; printed = run.3 })
+job_due None words job status text read (inr not) = inr (inl (not.0, not.1, tt))
+job_due (Some file) words job status text read (inr not) = inr (inl (not.0, not.1, record { job = job; read = read; not_thin = not.2 }))
+
+pub refusal_due : (told : Option Told) (words : List (List ℕ)) (r : Refusal) (status : Status) (text : List ℕ) → IfSome told (λ file. Refuses (due file words) r)
+    → (r ≡ Usage → command_of words ≡ None) → (r ≢ NoMemory) × (status ≡ status_of r) × (text ≡ line_of r) → IsDue told words status text
+refusal_due told words r status text h worded is = inr (inr (record { why = r; some = is.0; status_is = is.1; line = is.2; worded = worded; is_due = h }))
+
+-- the same of each library
+pub all_some : (told : Option Told) (P : Told → Type 0) → ((file : Told) → P file) → IfSome told P
+all_some None P h = tt
+all_some (Some file) P h = h file
+
+module _ (told : Option Told) (words : List (List ℕ)) (status : Status) (text : List ℕ) where
+  pub told_refused : IsDue told words status text → IfSome told (λ file. (r : Refusal) → (due file words).1 ≡ Err r → Yields (status_of r) status)
+  told_refused is = by told is
+    where
+      by : (told : Option Told) → IsDue told words status text → IfSome told (λ file. (r : Refusal) → (due file words).1 ≡ Err r → Yields (status_of r) status)
+      by None is = tt
+      by (Some file) is = refused_yields file words status text is
+
+  pub told_not_built : IsDue told words status text → IfSome told (λ file. (job : Job) → (due file words).1 ≡ Ok job → IsNotThin job → Yields ended.NotBuilt status)
+  told_not_built is = by told is
+    where
+      by : (told : Option Told) → IsDue told words status text → IfSome told (λ file. (job : Job) → (due file words).1 ≡ Ok job → IsNotThin job → Yields ended.NotBuilt status)
+      by None is = tt
+      by (Some file) is = not_built_yields file words status text is
+
+  pub told_done : IsDue told words status text → IfSome told (λ file. (job : Job) (runs : List Runnable) → (due file words).1 ≡ Ok job → AreRunnable job.versions runs → Yields ended.Done status)
+  told_done is = by told is
+    where
+      by : (told : Option Told) → IsDue told words status text → IfSome told (λ file. (job : Job) (runs : List Runnable) → (due file words).1 ≡ Ok job → AreRunnable job.versions runs → Yields ended.Done status)
+      by None is = tt
+      by (Some file) is = done_yields file words status text is

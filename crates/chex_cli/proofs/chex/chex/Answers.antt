@@ -1,0 +1,45 @@
+use Rattle.std.proofs.Common.{map, string_bytes, refl, inl, inr}
+use Rattle.chex_cli.proofs.EndLemmas.{due_write_fault, all_some, told_refused, told_not_built, told_done}
+use Rattle.chex_cli.proofs.chex.chex.Goals as goal
+
+pub returns-in-Err-clause-wrote : goal.returns-in-Err-clause-wrote
+returns-in-Err-clause-wrote g c = inl (refl, refl)
+
+pub returns-in-Err-clause-usage : goal.returns-in-Err-clause-usage
+returns-in-Err-clause-usage g c = λ none. inr (inl refl)
+
+pub returns-in-Err-clause-refused : goal.returns-in-Err-clause-refused
+returns-in-Err-clause-refused g c = all_some (g.L.Library.files c.args.library.now) _ (λ file r h. inr (inl refl))
+
+pub returns-in-Err-clause-not_built : goal.returns-in-Err-clause-not_built
+returns-in-Err-clause-not_built g c = all_some (g.L.Library.files c.args.library.now) _ (λ file job h not_thin. inr (inl refl))
+
+pub returns-in-Err-clause-done : goal.returns-in-Err-clause-done
+returns-in-Err-clause-done g c = all_some (g.L.Library.files c.args.library.now) _ (λ file job runs h thin. inr (inl refl))
+
+pub returns-in-Ok-write-clause-wrote : goal.returns-in-Ok-write-clause-wrote
+returns-in-Ok-write-clause-wrote g c =
+    inr (inr (string_bytes c.in-Ok.decision.text, c.in-Ok.ensures.due, rw (← c.as_bytes.ensures.value) c.in-Ok-write.ensures.held))
+
+pub returns-in-Ok-write-clause-write : goal.returns-in-Ok-write-clause-write
+returns-in-Ok-write-clause-write g c = λ h.
+    absurd (due_write_fault (g.L.Library.files c.args.library.now) (map string_bytes c.args.words.now) c.in-Ok.decision.status (string_bytes c.in-Ok.decision.text) c.in-Ok.ensures.due h)
+
+pub returns-in-Ok-write-clause-usage : goal.returns-in-Ok-write-clause-usage
+returns-in-Ok-write-clause-usage g c = λ none. inl (c.in-Ok.ensures.usage none)
+
+pub returns-in-Ok-write-clause-refused : goal.returns-in-Ok-write-clause-refused
+returns-in-Ok-write-clause-refused g c =
+    told_refused (g.L.Library.files c.args.library.now) (map string_bytes c.args.words.now) c.in-Ok.decision.status (string_bytes c.in-Ok.decision.text) c.in-Ok.ensures.due
+
+pub returns-in-Ok-write-clause-not_built : goal.returns-in-Ok-write-clause-not_built
+returns-in-Ok-write-clause-not_built g c =
+    told_not_built (g.L.Library.files c.args.library.now) (map string_bytes c.args.words.now) c.in-Ok.decision.status (string_bytes c.in-Ok.decision.text) c.in-Ok.ensures.due
+
+pub returns-in-Ok-write-clause-done : goal.returns-in-Ok-write-clause-done
+returns-in-Ok-write-clause-done g c =
+    told_done (g.L.Library.files c.args.library.now) (map string_bytes c.args.words.now) c.in-Ok.decision.status (string_bytes c.in-Ok.decision.text) c.in-Ok.ensures.due
+
+pub returns-clause-wrote : goal.returns-clause-wrote
+returns-clause-wrote g c =
+    inr (inl (refl, c.in-Ok.decision.status, string_bytes c.in-Ok.decision.text, c.in-Ok.ensures.due, rw (← c.as_bytes.ensures.value) c.in-Err-write.ensures.held))

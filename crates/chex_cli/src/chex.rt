@@ -1,0 +1,63 @@
+//! The top call.
+ghost use Rattle.std.specs.Prelude.{◌≡◌, None, Ok, Err, IfSome, List, map, string_bytes};
+ghost use Rattle.chex_base.specs.Outside.{Rose};
+ghost use Rattle.chex_cli.specs.Due.{due};
+ghost use Rattle.chex_cli.specs.Ends.{IsDue, Wrote, Yields};
+ghost use Rattle.chex_cli.specs.Refusals.{status_of};
+ghost use Rattle.chex_cli.specs.Thin.{AreRunnable, IsNotThin};
+ghost use Rattle.chex_cli.specs.Words.{command_of};
+
+use crate::decide::decide;
+use chex_base::{Library, NoMemory, Sink, Status};
+use std::alloc::Global;
+
+/// How a call of `chex` ended.
+#[derive(Clone, Copy, Debug, PartialEq, Eq)]
+pub struct Finish {
+    pub status: Status,
+}
+
+/// Does what the words ask for: `solo NOTEBOOK` runs a notebook alone and writes what it prints,
+/// and `alone MANIFEST` runs each version of a manifest alone, and writes for each its header and
+/// what it prints.
+///
+/// The words are those after the program's name. Each file is read anew, and looked at before the
+/// next one is. The whole text is made before the first write, so that writing takes no memory. A
+/// refusal writes its one line to `out` and sets the status; docs/FORMATS.md lists both. The time
+/// is linear in the files' bytes and in the cells' steps, but for the look-ups of names.
+pub fn chex<L: Library, W: Sink>(
+    alloc: Global,
+    words: &[String],
+    library: &mut L,
+    out: &mut W,
+) -> Finish
+    // What was written is the text that is due with the status; at `WriteFault` a front of a text that was due.
+    ensures wrote { Wrote (IsDue (L.files library.old) (map string_bytes words.now)) result.status (W.held out.old) (W.held out.new) }
+    // A fault of the outside comes only where its count rose.
+    ensures absent { result.status ≡ Status.Absent → Rose (L.absences library.old) (L.absences library.new) }
+    ensures read { result.status ≡ Status.ReadFault → Rose (L.faults library.old) (L.faults library.new) }
+    ensures write { result.status ≡ Status.WriteFault → Rose (W.faults out.old) (W.faults out.new) }
+    // Words that are no command are refused, unless memory is wanting or the write fails.
+    ensures usage { command_of (map string_bytes words.now) ≡ None → Yields Status.Usage result.status }
+    // So is what the words and the files refuse, with the status of the first refusal, unless a read fails too;
+    ensures refused { IfSome (L.files library.old) (λ file. (r : _) → (due file (map string_bytes words.now)).1 ≡ Err r → Yields (status_of r) result.status) }
+    // and so are versions of which some cell is not thin. Versions whose cells all are thin run.
+    ensures not_built { IfSome (L.files library.old) (λ file. (job : _) → (due file (map string_bytes words.now)).1 ≡ Ok job → IsNotThin job
+        → Yields Status.NotBuilt result.status) }
+    ensures done { IfSome (L.files library.old) (λ file. (job : _) (runs : _) → (due file (map string_bytes words.now)).1 ≡ Ok job → AreRunnable job.versions runs
+        → Yields Status.Done result.status) }
+{
+    match decide(alloc, words, library) {
+        Err(NoMemory) => Finish {
+            status: Status::NoMemory,
+        },
+        Ok(decision) => match out.write(decision.text.as_bytes()) {
+            Ok(()) => Finish {
+                status: decision.status,
+            },
+            Err(_) => Finish {
+                status: Status::WriteFault,
+            },
+        },
+    }
+}

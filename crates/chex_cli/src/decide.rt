@@ -1,0 +1,73 @@
+//! What is to be written, made whole before the first write.
+ghost use Rattle.std.specs.Prelude.{◌≡◌, ◌≢◌, ◌⊎◌, None, Some, IfOk, map, string_bytes, codes};
+ghost use Rattle.chex_base.specs.Outside.{Rose};
+ghost use Rattle.chex_cli.specs.Ends.{IsDue};
+ghost use Rattle.chex_cli.specs.Refusals.{status_of, line_of};
+ghost use Rattle.chex_cli.specs.Thin as thin;
+ghost use Rattle.chex_cli.specs.Words.{command_of};
+
+use crate::decision::Decision;
+use crate::files::due;
+use crate::refusal::Refusal;
+use crate::texts::job_text;
+use crate::thin::runnables;
+use crate::version::Job;
+use chex_base::{Library, NoMemory, Status};
+use std::alloc::Global;
+
+/// Looks at the words and the files, and makes the status and the whole text. It writes nothing.
+pub fn decide<L: Library>(
+    alloc: Global,
+    words: &[String],
+    library: &mut L,
+) -> Result<Decision, NoMemory>
+    ensures due { IfOk result (λ d. IsDue (L.files library.old) (map string_bytes words.now) d.status (string_bytes d.text)) }
+    ensures absent { IfOk result (λ d. d.status ≡ Status.Absent → Rose (L.absences library.old) (L.absences library.new)) }
+    ensures read { IfOk result (λ d. d.status ≡ Status.ReadFault → Rose (L.faults library.old) (L.faults library.new)) }
+    ensures usage { command_of (map string_bytes words.now) ≡ None → IfOk result (λ d. d.status ≡ Status.Usage) }
+{
+    match due(alloc, words, library) {
+        Ok(job) => of_job(alloc, &job),
+        Err(refusal) => refused(alloc, &refusal),
+    }
+}
+
+/// The status and the line of a refusal.
+fn refused(alloc: Global, refusal: &Refusal) -> Result<Decision, NoMemory>
+    ensures { IfOk result (λ d. (refusal.now ≢ Refusal.NoMemory) × (d.status ≡ status_of refusal.now) × (string_bytes d.text ≡ line_of refusal.now)) }
+{
+    if matches!(refusal, Refusal::NoMemory) {
+        return Err(NoMemory);
+    }
+    Ok(Decision {
+        status: refusal.status(),
+        text: refusal.line(alloc)?,
+    })
+}
+
+/// The text of versions whose cells all are thin.
+fn of_job(alloc: Global, job: &Job) -> Result<Decision, NoMemory>
+    ensures { IfOk result (λ d.
+        ((d.status ≡ Status.Done) × (runs : _) × thin.AreRunnable job.now.versions runs × (thin.job_text job.now.headed runs ≡ Some (string_bytes d.text)))
+        ⊎ ((d.status ≡ Status.NotBuilt) × (string_bytes d.text ≡ codes "error: not built\n") × thin.IsNotThin job.now)) }
+{
+    let Some(runs) = runnables(alloc, job.versions.as_slice())? else {
+        return not_built(alloc);
+    };
+    match job_text(alloc, job.headed, &runs)? {
+        Some(text) => Ok(Decision {
+            status: Status::Done,
+            text,
+        }),
+        None => not_built(alloc),
+    }
+}
+
+fn not_built(alloc: Global) -> Result<Decision, NoMemory>
+    ensures { IfOk result (λ d. (d.status ≡ Status.NotBuilt) × (string_bytes d.text ≡ codes "error: not built\n")) }
+{
+    Ok(Decision {
+        status: Status::NotBuilt,
+        text: String::from_str(alloc, "error: not built\n")?,
+    })
+}
