@@ -168,12 +168,14 @@ module _ (file : Told) (words : List (List ℕ)) (status : Status) (text : List 
     | inr (inl not) ↦ inl not.0
     | inr (inr why) ↦ refusal_stops ended.NotBuilt why.why job why.some why.status_is why.is_due h
   ]
+
   pub done_yields : (job : Job) (runs : List Runnable) → (due file words).1 ≡ Ok job → AreRunnable job.versions runs → Yields ended.Done status
   done_yields job runs h are = elim is [
     | inl run ↦ inl run.0
     | inr (inl not) ↦ absurd (not.2.not_thin runs (subst (λ (j : Job). AreRunnable j.versions runs) (same_job job not.2.job (due file words).1 h not.2.read) are))
     | inr (inr why) ↦ refusal_stops ended.Done why.why job why.some why.status_is why.is_due h
   ]
+
 -- what is due where versions were read, and where a refusal came
 pub job_due : (told : Option Told) (words : List (List ℕ)) (job : Job) (status : Status) (text : List ℕ) → IfSome told (λ file. (due file words).1 ≡ Ok job)
     → ((status ≡ ended.Done) × (runs : List Runnable) × AreRunnable job.versions runs × (job_text job.headed runs ≡ Some text)) ⊎ ((status ≡ ended.NotBuilt) × (text ≡ codes "error: not built\n") × IsNotThin job)

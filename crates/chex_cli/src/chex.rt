@@ -61,3 +61,6 @@ pub fn chex<L: Library, W: Sink>(
         },
     }
 }
+
+#[cfg(test)]
+mod tests;
