@@ -2,3 +2,4 @@ pub mod Levelled
 pub mod ListLemmas
 pub mod SpellingLemmas
 pub mod StatementLemmas
+pub mod PlacementLemmas

@@ -4,6 +4,7 @@ ghost use Rattle.std.specs.Prelude.{◌≡◌, IfOk};
 ghost use Rattle.std.specs.List.{slice_get};
 ghost use Rattle.std.specs.Option.{option_copied};
 ghost use Rattle.star_syntax.specs.Cells.{def_of, functions_of, numbered};
+ghost use Rattle.star_syntax.specs.Placement.{IsPlaced, AreInputNames};
 
 use crate::names::Names;
 use crate::statement::{Def, Module, Statement};
@@ -11,18 +12,38 @@ use chex_base::{NoMemory, NodeId, Text};
 use std::alloc::Global;
 use std::marker::Model;
 
-/// A cell: its source, the tree of its statements, and the names of the inputs that it reads, in
-/// rising byte order and each once.
+/// A cell: its source, the tree of its statements, which breaks no rule of placement, and the names
+/// of its `input` literals, in rising byte order and each once. The rules stand in docs/LANGUAGE.md.
 #[derive(Drop)]
 pub struct Cell {
-    pub source: Text,
-    pub module: Module,
-    pub inputs: Names,
+    source: Text,
+    module: Module,
+    inputs: Names,
+}
+
+impl Model for Cell {
+    ghost use Rattle.std.specs.Prelude.{ℕ, List, refl};
+    ghost use Rattle.std.specs.Coded.{code_by, coded×, coded_ℕ, coded_list};
+    ghost use Rattle.star_syntax.specs.Placement.{IsPlaced, AreInputNames};
+    ghost use Rattle.star_syntax.specs.CellParts.{CellParts};
+    ghost use Rattle.star_syntax.specs.declared.statement.Module.{Module};
+    ghost use Rattle.star_syntax.specs.contracts.statement.Module as tree;
+
+    ghost Value = { CellParts };
+
+    ghost coded = { code_by (List ℕ × (Module × List (List ℕ))) (coded× (coded_list coded_ℕ) (coded× tree.the_row.coded (coded_list (coded_list coded_ℕ)))) (λ c. (c.source, (c.«module», c.inputs))) (λ t. record { source = t.0; «module» = t.1.0; inputs = t.1.1 }) (λ _. refl) };
+
+    ghost view = { λ cell. record { source = cell.source; «module» = cell.«module»; inputs = cell.inputs } };
+
+    ghost invariant = { λ cell. IsPlaced cell.«module» × AreInputNames cell.«module» cell.inputs };
 }
 
 impl Cell {
-    /// The cell of these three. Takes no memory.
+    /// The cell of a module that breaks no rule of placement, with its source and the names of its
+    /// `input` literals. Takes no memory.
     pub fn new(source: Text, module: Module, inputs: Names) -> Cell
+        requires placed { IsPlaced «module» }
+        requires names { AreInputNames «module» inputs }
         ensures { result ≡ record { source = source; «module» = «module»; inputs = inputs } }
     {
         Cell {

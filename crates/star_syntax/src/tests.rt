@@ -313,18 +313,19 @@ fn trees_are_spelled_by_the_grammar(rt: HostRuntime) -> Result<(), Fail> {
     Ok(())
 }
 
-/// A cell gives back what it was made of, its functions by number, and a program its cells by node.
+/// A cell gives back what it was made of, and a program its cells by node.
 #[test]
 fn cells_hold_their_parts(rt: HostRuntime) -> Result<(), Fail> {
     let alloc = rt.alloc();
-    let names = Names::from_vec(vec![in alloc; text(alloc, "n")?]?);
-    let cell = Cell::new(text(alloc, "def f")?, nested(alloc)?, names).copy(alloc)?;
-    assert_eq!(rt; cell.source().as_str(), "def f");
-    assert_eq!(rt; cell.inputs().as_slice().len(), 1);
-    assert_eq!(rt; cell.module().statements.len(), 1);
-    let function = cell.function(0).ok_or("no function")?;
-    assert_eq!(rt; function.name.as_str(), "f");
-    assert!(rt; cell.function(1).is_none());
+    let module = Module {
+        statements: Items::new(alloc),
+    };
+    let names = Names::from_vec(Vec::new(alloc));
+    let cell = Cell::new(text(alloc, "# no statement")?, module, names).copy(alloc)?;
+    assert_eq!(rt; cell.source().as_str(), "# no statement");
+    assert_eq!(rt; cell.inputs().as_slice().len(), 0);
+    assert_eq!(rt; cell.module().statements.len(), 0);
+    assert!(rt; cell.function(0).is_none());
     let program = Program {
         cells: Cells::from_vec(vec![in alloc; cell]?),
     };

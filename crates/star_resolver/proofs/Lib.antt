@@ -1,0 +1,5 @@
+pub mod TextsLemmas
+pub mod Walks
+pub mod Layers
+pub mod StatementLayers
+pub mod Whole

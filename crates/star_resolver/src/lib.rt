@@ -1,0 +1,18 @@
+//! Looks at a cell's tree by the rules of placement, and makes the cell.
+//!
+//! [`resolve`] answers the cell of a source and its tree, or the first breach of a rule in text
+//! order. The rules stand in docs/LANGUAGE.md.
+#![tactic(auto)]
+
+pub mod error;
+pub mod expression;
+pub mod parameters;
+pub mod place;
+pub mod placement;
+pub mod statement;
+#[cfg(test)]
+mod tests;
+pub mod texts;
+
+pub use error::{ResolveFault, ResolveKind};
+pub use placement::resolve;

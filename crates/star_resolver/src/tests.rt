@@ -1,0 +1,1 @@
+//! Trees made by hand, and the cells or the first breaches of them.

@@ -1,0 +1,15 @@
+-- What follows from the rules of placement.
+use Rattle.std.proofs.Common.{◌≡◌, ℕ, List, [], refl, subst, sym}
+use Rattle.std.specs.List.Sorted.{IsStrictlySortedBy}
+use Rattle.star_syntax.specs.Placement.{IsPlaced, AreInputNames, sights, breaches, names_read}
+use Rattle.star_syntax.specs.declared.statement.Module.{Module}
+
+-- a cell without statements breaks no rule
+pub placed-nothing : IsPlaced (record { statements = [] })
+unfolding breaches sights
+placed-nothing = refl
+
+-- and reads no input
+pub names-nothing : AreInputNames (record { statements = [] }) []
+unfolding names_read sights IsStrictlySortedBy
+names-nothing = record { rising = tt; same = refl }
