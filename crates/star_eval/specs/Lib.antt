@@ -5,3 +5,4 @@ pub mod Steps
 pub mod View
 pub mod Meaning
 pub mod Ends
+pub mod Thin

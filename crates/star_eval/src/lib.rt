@@ -12,9 +12,11 @@ pub mod globals;
 pub mod run;
 pub mod statement;
 pub mod stop;
+pub mod thin;
 pub mod value;
 
 pub use cell::{End, Ran, RunFault, run_cell};
 pub use failure::Failure;
 pub use globals::Globals;
+pub use thin::is_thin;
 pub use value::{Builtin, Value};

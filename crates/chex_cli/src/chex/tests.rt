@@ -479,13 +479,18 @@ fn counts_are_limited(rt: HostRuntime) -> Result<(), Fail> {
             "error: i: too many inputs: 257\n",
         ),
     ] {
-        let files: &[(&str, &str)] = &[
-            ("f", bytes),
-            ("v", version),
-            ("w", inputs),
-            ("i", names.as_str()),
-        ];
-        let ended = run(alloc, line, files, 0, 0)?;
+        let ended = run(
+            alloc,
+            line,
+            &[
+                ("f", bytes),
+                ("v", version),
+                ("w", inputs),
+                ("i", names.as_str()),
+            ],
+            0,
+            0,
+        )?;
         assert_eq!(rt; ended.written.as_slice(), written.as_bytes());
         assert_eq!(rt; ended.status, status);
     }
