@@ -1,0 +1,20 @@
+//! Values of the language: what a cell computes with, the keys of dicts, what a value costs, and
+//! the calls on texts. Nothing here knows objects: a list, a dict or a function is the number of
+//! one. Each call is its list function in `specs/`, beside want of memory.
+#![tactic(auto)]
+
+pub mod builtin;
+pub mod failure;
+pub mod key;
+pub mod meter;
+pub mod range;
+pub mod stop;
+pub mod value;
+
+pub use builtin::Builtin;
+pub use failure::Failure;
+pub use key::{Key, Keys};
+pub use meter::Meter;
+pub use range::Range;
+pub use stop::Stop;
+pub use value::{Value, Values};
