@@ -1,1 +1,3 @@
 pub mod WeightLemmas
+pub mod Places
+pub mod Ends

@@ -1,6 +1,5 @@
 -- Which values are keys of dicts.
 use Rattle.std.specs.Prelude.{◌≡◌, List, [], ◌∷◌, Option, Some, None, option_map, Result, Ok, Err}
-use Rattle.star_value.specs.declared.failure.Failure.{Failure}
 use Rattle.star_value.specs.declared.failure.Failure.TheVariants.{Unhashable}
 use Rattle.star_value.specs.declared.key.Key.{Key, fold-Key}
 use Rattle.star_value.specs.declared.key.Key.TheOpen.{Key-F}

@@ -1,3 +1,5 @@
 pub mod Charge
 pub mod Weight
 pub mod Keys
+pub mod Texts
+pub mod Cutting

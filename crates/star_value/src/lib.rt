@@ -5,6 +5,7 @@
 
 pub mod builtin;
 pub mod failure;
+pub mod finding;
 pub mod key;
 pub mod meter;
 pub mod range;
@@ -13,6 +14,7 @@ pub mod value;
 
 pub use builtin::Builtin;
 pub use failure::Failure;
+pub use finding::{ends_with, find, starts_with};
 pub use key::{Key, Keys};
 pub use meter::Meter;
 pub use range::Range;
