@@ -12,7 +12,7 @@ use Rattle.std.proofs.lemmas.Slice.Eq.{ends_is}
 use Rattle.std.proofs.lemmas.Str.{encodes-append, encodes-chars, encodes_same, IsUtf8-append, IsUtf8-drop, IsUtf8-take, IsCharBoundary-from_drop}
 use Rattle.std.proofs.lemmas.Str.Pattern.{starts_text}
 use Rattle.star_value.specs.Texts.{starts_with, ends_with, find}
-use Rattle.star_value.specs.Cutting.{CutsAt}
+use Rattle.star_value.specs.Cutting.{CutsAt, IsCut}
 use Rattle.star_value.proofs.Places.{starts_rest, starts_not, starts_with-append, rest_of_encoded, find_at, find_nowhere}
 
 starts_with-encoded : (text what : List ℕ) → starts_with (encode_utf8_all text) (encode_utf8_all what) ≡ starts_with text what
@@ -56,20 +56,21 @@ ends_with_is false text what scalar h = sym (ends_no text what h)
 -- ---- a text that is cut in two
 
 cut_here : (text what before after : List ℕ) (i j : ℕ) → FindsText (encode_utf8_all what) (encode_utf8_all text) (Some (i, j))
-    → before ≡ take i (encode_utf8_all text) → after ≡ drop j (encode_utf8_all text) → length before ≡ i → IsUtf8 before → IsUtf8 after
-    → (find text what ≡ Some (length (chars before))) × (text ≡ chars before ++ (what ++ chars after))
+    → before ≡ take i (encode_utf8_all text) → after ≡ drop j (encode_utf8_all text) → length before ≡ i → IsUtf8 before → IsUtf8 after → IsCut text what before after
 cut_here text what before after i j (first, here) front back long utf8 rest_utf8 =
     let spelt : encode_utf8_all (chars before) ≡ before = encodes-chars before utf8 in
     let bytes : encode_utf8_all text ≡ encode_utf8_all (chars before) ++ drop i (encode_utf8_all text) =
     sym (take-append-drop i (encode_utf8_all text)) ∙ ap (λ b. b ++ drop i (encode_utf8_all text)) (sym front ∙ sym spelt) in
     let (rest, whole, more) = rest_of_encoded (chars before) text (drop i (encode_utf8_all text)) bytes in
-    let (es, inner, left) = rest_of_encoded what rest (drop j (encode_utf8_all text)) (sym (sym (here.split) ∙ sym more)) in
+    let (es, inner, left) = rest_of_encoded what rest (drop j (encode_utf8_all text)) (more ∙ here.split) in
     let last : es ≡ chars after = encodes_same es (chars after) (left ∙ sym back ∙ sym (encodes-chars after rest_utf8)) in
     let starts : starts_with rest what ≡ true = ap (λ t. starts_with t what) inner ∙ starts_with-append what es in
-    let places : length (encode_utf8_all (chars before)) ≡ i = ap length spelt ∙ long in (
-      ap (λ t. find t what) whole ∙ find_at (chars before) rest what starts (λ k below rest_bytes is. first k (omega arith) rest_bytes (ap (λ t. drop k (encode_utf8_all t)) whole ∙ is)),
-      whole ∙ ap (λ t. chars before ++ t) (inner ∙ ap (λ t. what ++ t) last),
-    )
+    let places : length (encode_utf8_all (chars before)) ≡ i = ap length spelt ∙ long in
+    record {
+      place = ap (λ t. find t what) whole ∙ find_at (chars before) rest what starts (λ k below rest_bytes is. first k (omega arith) rest_bytes (ap (λ t. drop k (encode_utf8_all t)) whole ∙ is));
+      parts = whole ∙ ap (λ t. chars before ++ t) (inner ∙ ap (λ t. what ++ t) last);
+      spelt = rest_utf8;
+    }
 
 utf8_after : (text what : List ℕ) (i j : ℕ) → IsUtf8 text → HasTextAt what text i j → IsUtf8 (drop j text)
 utf8_after text what i j utf8 here = IsUtf8-drop text j utf8 (rw here.ends here.after)

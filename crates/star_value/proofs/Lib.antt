@@ -1,3 +1,4 @@
 pub mod WeightLemmas
 pub mod Places
 pub mod Ends
+pub mod Pieces

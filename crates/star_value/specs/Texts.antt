@@ -1,7 +1,8 @@
 -- What the calls on texts answer. A text is the list of its code points.
 use Rattle.std.specs.Prelude.{ℕ, zero, suc, ◌+◌, ◌-◌, nat_eq, ◌==◌, Bool, not, List, [], ◌∷◌, length, reverse, Option, Some, None, option_map, if◌then◌else◌}
 use Rattle.std.specs.List as list
-use Rattle.std.specs.List.{filter, join_by, list_any, onto_first, slice_split}
+use Rattle.std.specs.Char.{char_set_contains}
+use Rattle.std.specs.List.{filter, join_by, onto_first, slice_split}
 
 -- whether a text starts with another, and whether it ends with another
 abbrev pub starts_with : List ℕ → List ℕ → Bool
@@ -38,9 +39,9 @@ replace of old new = join new (split of old)
 abbrev pub white : List ℕ
 white = 32 ∷ 9 ∷ 10 ∷ 13 ∷ 11 ∷ 12 ∷ []
 
--- whether a code point is one of these
+-- whether a code point is in a set
 abbrev pub is_among : List ℕ → ℕ → Bool
-is_among set c = list_any (λ d. d == c) set
+is_among set c = char_set_contains set c
 
 abbrev pub is_some_text : List ℕ → Bool
 is_some_text text = not (length text == 0)

@@ -4,6 +4,7 @@
 #![tactic(auto)]
 
 pub mod builtin;
+pub mod cutting;
 pub mod failure;
 pub mod finding;
 pub mod key;
@@ -13,6 +14,7 @@ pub mod stop;
 pub mod value;
 
 pub use builtin::Builtin;
+pub use cutting::{Texts, join, replace, split};
 pub use failure::Failure;
 pub use finding::{ends_with, find, starts_with};
 pub use key::{Key, Keys};
