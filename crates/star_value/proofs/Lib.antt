@@ -2,3 +2,5 @@ pub mod WeightLemmas
 pub mod Places
 pub mod Ends
 pub mod Pieces
+pub mod Words
+pub mod Trims

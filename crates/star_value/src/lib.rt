@@ -12,6 +12,7 @@ pub mod meter;
 pub mod range;
 pub mod stop;
 pub mod value;
+pub mod white;
 
 pub use builtin::Builtin;
 pub use cutting::{Texts, join, replace, split};
@@ -22,3 +23,4 @@ pub use meter::Meter;
 pub use range::Range;
 pub use stop::Stop;
 pub use value::{Value, Values};
+pub use white::{split_white, strip};
