@@ -4,3 +4,4 @@ pub mod Ends
 pub mod Pieces
 pub mod Words
 pub mod Trims
+pub mod FormatLemmas

@@ -114,3 +114,7 @@ shorter text by before after some cut =
     let long = ap length cut.parts ∙ length-append (chars before) (by ++ chars after) in
     let rest = length-append by (chars after) in
     omega arith
+
+pub ruleset split_steps = (split_more, split_none, shorter)
+
+pub ruleset replace_steps = (replace_more, replace_none, shorter)

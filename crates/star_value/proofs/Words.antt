@@ -1,17 +1,17 @@
 -- Texts that are cut at a code point of a set, from what `str` says of their bytes.
-use Rattle.std.proofs.Common.{◌≡◌, ℕ, zero, suc, Bool, true, false, ◌&&◌, List, [], ◌∷◌, ◌++◌, length, take, drop, Option, Some, None, refl, sym, ap, ◌∙◌, subst, append_assoc, append-nil, IsUtf8, arith}
+use Rattle.std.proofs.Common.{◌≡◌, ◌<◌, ℕ, zero, suc, Bool, true, false, ◌&&◌, List, [], ◌∷◌, ◌++◌, length, take, drop, Option, Some, None, refl, sym, ap, ◌∙◌, subst, append_assoc, append-nil, IsUtf8, arith}
 use Rattle.std.specs.Prelude.{◌==◌, not, MatchOption}
 use Rattle.std.specs.Borrow.{Bor}
 use Rattle.std.specs.Char.{char_set_contains}
 use Rattle.std.specs.List.{filter, onto_first, slice_split}
 use Rattle.std.specs.Str.{NonePass, NoCharPasses, chars, encode_utf8_all, all_scalars}
-use Rattle.std.specs.Str.Pattern.{FindsBy, HasPassingCharAt, SplitsAroundMatch}
+use Rattle.std.specs.Str.Pattern.{FindsBy, FindsChar, HasPassingCharAt, SplitsAroundMatch}
 use Rattle.std.proofs.lemmas.Bool.Decides.{Decides-eqb, nat_tests}
 use Rattle.std.proofs.lemmas.List.{length-append, take-append-drop}
 use Rattle.std.proofs.lemmas.List.Elements.{filter-append}
 use Rattle.std.proofs.lemmas.List.Splits.{slice_split-cons_yes, slice_split-cons_no}
 use Rattle.std.proofs.lemmas.Str.{chars-encodes, cons_from_encodes, encodes-chars, encodes_same, length-le-encodes, scalars-chars, IsUtf8-drop}
-use Rattle.star_value.specs.Cutting.{CutsAtWhite, IsWhiteCut, between_white}
+use Rattle.star_value.specs.Cutting.{CutsAtPoint, IsPointCut}
 use Rattle.star_value.specs.Texts.{is_among, is_some_text, white}
 use Rattle.star_value.proofs.Places.{rest_of_encoded}
 
@@ -36,46 +36,77 @@ pub scalars-back : (front back : List ℕ) → all_scalars (front ++ back) ≡ t
 scalars-back [] back h = h
 scalars-back (c ∷ front) back h = scalars-back front back (both _ (all_scalars (front ++ back)) h).1
 
-cut_here : (bytes before after : List ℕ) (i j : ℕ) → IsUtf8 bytes → NoCharPasses (is_among white) (take i bytes) → HasPassingCharAt (is_among white) bytes i j
-    → before ≡ take i bytes → after ≡ drop j bytes → IsWhiteCut (chars bytes) before after
-cut_here bytes before after i j utf8 (front, spelt, none) (c, passes, here) is_front is_back =
-    let whole : encode_utf8_all (chars bytes) ≡ encode_utf8_all front ++ drop i bytes =
-    encodes-chars bytes utf8 ∙ sym (take-append-drop i bytes) ∙ ap (λ b. b ++ drop i bytes) (sym spelt) in
-    let (rest, parts, more) = rest_of_encoded front (chars bytes) (drop i bytes) whole in
-    let (es, inner, left) = cons_from_encodes rest (drop j bytes) c (more ∙ here.split) in
-    let fine : IsUtf8 after = subst IsUtf8 (sym is_back) (IsUtf8-drop bytes j utf8 (rw here.ends here.after)) in
-    let first : chars before ≡ front = ap chars (is_front ∙ sym spelt) ∙ chars-encodes front (scalars-front front rest (ap all_scalars (sym parts) ∙ scalars-chars bytes utf8)) in
-    let last : es ≡ chars after = encodes_same es (chars after) (left ∙ sym is_back ∙ sym (encodes-chars after fine)) in
-    let cut : chars bytes ≡ front ++ c ∷ chars after = parts ∙ ap (λ t. front ++ t) (inner ∙ ap (λ t. c ∷ t) last) in
-    record {
-      pieces = ap between_white cut ∙ slice_split-append (is_among white) front c (chars after) none passes ∙ ap (λ t. t ∷ between_white (chars after)) (sym first);
-      shorter = let long = ap length cut ∙ length-append front (c ∷ chars after) in omega arith;
-      spelt = fine;
-    }
+module _ (test : ℕ → Bool) where
+  cut_here : (bytes before after : List ℕ) (i j : ℕ) → IsUtf8 bytes → NoCharPasses test (take i bytes) → HasPassingCharAt test bytes i j
+      → before ≡ take i bytes → after ≡ drop j bytes → IsPointCut test (chars bytes) before after
+  cut_here bytes before after i j utf8 (front, spelt, none) (c, passes, here) is_front is_back =
+      let whole : encode_utf8_all (chars bytes) ≡ encode_utf8_all front ++ drop i bytes =
+      encodes-chars bytes utf8 ∙ sym (take-append-drop i bytes) ∙ ap (λ b. b ++ drop i bytes) (sym spelt) in
+      let (rest, parts, more) = rest_of_encoded front (chars bytes) (drop i bytes) whole in
+      let (es, inner, left) = cons_from_encodes rest (drop j bytes) c (more ∙ here.split) in
+      let fine : IsUtf8 after = subst IsUtf8 (sym is_back) (IsUtf8-drop bytes j utf8 (rw here.ends here.after)) in
+      let first : chars before ≡ front = ap chars (is_front ∙ sym spelt) ∙ chars-encodes front (scalars-front front rest (ap all_scalars (sym parts) ∙ scalars-chars bytes utf8)) in
+      let last : es ≡ chars after = encodes_same es (chars after) (left ∙ sym is_back ∙ sym (encodes-chars after fine)) in
+      record {
+        point = c;
+        passes = passes;
+        first = subst (NonePass test) (sym first) none;
+        parts = parts ∙ ap (λ t. front ++ t) (inner ∙ ap (λ t. c ∷ t) last) ∙ ap (λ t. t ++ c ∷ chars after) (sym first);
+        spelt = fine;
+      }
 
-abbrev FindsWhite : List ℕ → Option (ℕ × ℕ) → Type 0
-FindsWhite bytes found = (k : ℕ → Bool) → ((c : ℕ) → char_set_contains white c ≡ k c) → FindsBy k bytes found
+  cut_nowhere : (bytes : List ℕ) → IsUtf8 bytes → NoCharPasses test bytes → NonePass test (chars bytes)
+  cut_nowhere bytes utf8 (cs, spelt, none) = subst (NonePass test) (encodes_same cs (chars bytes) (spelt ∙ sym (encodes-chars bytes utf8))) none
 
-pub cuts_at_white : (bytes : List ℕ) (cut : Option (Bor (List ℕ) × Bor (List ℕ))) → IsUtf8 bytes
-    → MatchOption cut (FindsWhite bytes None) (λ x. SplitsAroundMatch FindsWhite bytes x.0.now x.1.now) → CutsAtWhite (chars bytes) cut
-cuts_at_white bytes None utf8 never =
-    let (cs, spelt, none) = never (is_among white) (λ c. refl) in
-    let is : chars bytes ≡ cs = encodes_same (chars bytes) cs (encodes-chars bytes utf8 ∙ sym spelt) in
-    ap between_white is ∙ slice_split-none (is_among white) cs none ∙ ap (λ t. t ∷ []) (sym is)
-cuts_at_white bytes (Some cut) utf8 (i, j, found, front, back, order, long, left) =
-    let (none, here) = found (is_among white) (λ c. refl) in
-    cut_here bytes cut.0.now cut.1.now i j utf8 none here front back
+  -- `split_once` at the code points that pass
+  pub cuts_at_point : (bytes : List ℕ) (cut : Option (Bor (List ℕ) × Bor (List ℕ))) → IsUtf8 bytes
+      → MatchOption cut (FindsBy test bytes None) (λ x. SplitsAroundMatch (FindsBy test) bytes x.0.now x.1.now) → CutsAtPoint test (chars bytes) cut
+  cuts_at_point bytes None utf8 none = cut_nowhere bytes utf8 none
+  cuts_at_point bytes (Some cut) utf8 (i, j, found, front, back, order, long, left) = cut_here bytes cut.0.now cut.1.now i j utf8 found.0 found.1 front back
+
+-- the same at the code points of a set, and at one code point
+module _ (set : List ℕ) where
+  abbrev FindsAmong : List ℕ → Option (ℕ × ℕ) → Type 0
+  FindsAmong bytes found = (k : ℕ → Bool) → ((c : ℕ) → char_set_contains set c ≡ k c) → FindsBy k bytes found
+
+  pub cuts_at_set : (bytes : List ℕ) (cut : Option (Bor (List ℕ) × Bor (List ℕ))) → IsUtf8 bytes
+      → MatchOption cut (FindsAmong bytes None) (λ x. SplitsAroundMatch FindsAmong bytes x.0.now x.1.now) → CutsAtPoint (is_among set) (chars bytes) cut
+  cuts_at_set bytes None utf8 never = cut_nowhere (is_among set) bytes utf8 (never (is_among set) (λ c. refl))
+  cuts_at_set bytes (Some cut) utf8 (i, j, found, front, back, order, long, left) =
+      let here = found (is_among set) (λ c. refl) in
+      cut_here (is_among set) bytes cut.0.now cut.1.now i j utf8 here.0 here.1 front back
+
+pub cuts_at_char : (c : ℕ) (bytes : List ℕ) (cut : Option (Bor (List ℕ) × Bor (List ℕ))) → IsUtf8 bytes
+    → MatchOption cut (FindsChar c bytes None) (λ x. SplitsAroundMatch (FindsChar c) bytes x.0.now x.1.now) → CutsAtPoint (λ d. d == c) (chars bytes) cut
+cuts_at_char c bytes None utf8 never = cut_nowhere (λ d. d == c) bytes utf8 never
+cuts_at_char c bytes (Some cut) utf8 (i, j, found, front, back, order, long, left) =
+    cut_here (λ d. d == c) bytes cut.0.now cut.1.now i j utf8 found.0 (c, (Decides-eqb c c).1 refl, found.1) front back
+
+-- each cut takes code points off the front
+pub shorter : (test : ℕ → Bool) (text before after : List ℕ) → IsPointCut test text before after → length (chars after) < length text
+shorter test text before after cut = let long = ap length cut.parts ∙ length-append (chars before) (cut.point ∷ chars after) in omega arith
+
+-- ---- the pieces between white code points
+
+abbrev pub between_white : List ℕ → List (List ℕ)
+between_white text = slice_split (is_among white) text
+
+pub between_white_none : (text : List ℕ) → NonePass (is_among white) text → between_white text ≡ text ∷ []
+between_white_none text none = slice_split-none (is_among white) text none
+
+between_white-cut : (text before after : List ℕ) → IsPointCut (is_among white) text before after → between_white text ≡ chars before ∷ between_white (chars after)
+between_white-cut text before after cut = ap between_white cut.parts ∙ slice_split-append (is_among white) (chars before) cut.point (chars after) cut.first cut.passes
 
 -- ---- a loop that pushes each piece that is not empty
 
 filter-cons : (word : List ℕ) (rest : List (List ℕ)) → filter is_some_text (word ∷ rest) ≡ filter is_some_text (word ∷ []) ++ filter is_some_text rest
 filter-cons word rest = filter-append is_some_text (word ∷ []) rest
 
-pub words_more : (done : List (List ℕ)) (text before after : List ℕ) → IsWhiteCut text before after
+pub words_more : (done : List (List ℕ)) (text before after : List ℕ) → IsPointCut (is_among white) text before after
     → (done ++ filter is_some_text (chars before ∷ [])) ++ filter is_some_text (between_white (chars after)) ≡ done ++ filter is_some_text (between_white text)
 words_more done text before after cut =
     append_assoc done (filter is_some_text (chars before ∷ [])) (filter is_some_text (between_white (chars after)))
-    ∙ ap (λ all. done ++ all) (sym (filter-cons (chars before) (between_white (chars after))) ∙ ap (filter is_some_text) (sym cut.pieces))
+    ∙ ap (λ all. done ++ all) (sym (filter-cons (chars before) (between_white (chars after))) ∙ ap (filter is_some_text) (sym (between_white-cut text before after cut)))
 
 no_points : (cs : List ℕ) → length cs ≡ 0 → length (encode_utf8_all cs) ≡ 0
 no_points [] none = refl
@@ -98,3 +129,7 @@ no_word done bytes utf8 none = rw (is_some_text-chars bytes utf8, ← none) (sym
 
 pub some_word : (done : List (List ℕ)) (bytes : List ℕ) → IsUtf8 bytes → false ≡ (length bytes == 0) → done ++ chars bytes ∷ [] ≡ done ++ filter is_some_text (chars bytes ∷ [])
 some_word done bytes utf8 some = rw (is_some_text-chars bytes utf8, ← some) refl
+
+pub ruleset steps = (words_more, between_white_none, shorter)
+
+pub ruleset pushes = (no_word, some_word)

@@ -3,3 +3,4 @@ pub mod Weight
 pub mod Keys
 pub mod Texts
 pub mod Cutting
+pub mod Format

@@ -13,7 +13,7 @@ pub type Texts = Items<Text>;
 /// The pieces of `of` between the places of `by`, which are found from the left and do not overlap.
 /// A piece may be empty, and there is one piece more than there are places. It takes time linear in
 /// `of` and, for each piece, in `by`.
-#[tactic(auto, using(crate::proofs::Places::spells, crate::proofs::Pieces::split_more, crate::proofs::Pieces::split_none, crate::proofs::Pieces::shorter))]
+#[tactic(auto, using(crate::proofs::Places::spells, crate::proofs::Pieces::split_steps))]
 pub fn split(alloc: Global, of: &Text, by: &Text) -> Result<Texts, NoMemory>
     requires { 0 < length by.now }
     ensures { IfOk result (λ pieces. pieces ≡ spec.split of.now by.now) }
@@ -30,7 +30,7 @@ pub fn split(alloc: Global, of: &Text, by: &Text) -> Result<Texts, NoMemory>
 
 /// `of` with `new` in place of each `old`, which are found from the left and do not overlap. It
 /// takes time linear in `of`, in what it answers and, for each place, in `old`.
-#[tactic(auto, using(crate::proofs::Places::spells, crate::proofs::Pieces::replace_more, crate::proofs::Pieces::replace_none, crate::proofs::Pieces::shorter))]
+#[tactic(auto, using(crate::proofs::Places::spells, crate::proofs::Pieces::replace_steps))]
 pub fn replace(alloc: Global, of: &Text, old: &Text, new: &Text) -> Result<Text, NoMemory>
     requires { 0 < length old.now }
     ensures { IfOk result (λ text. text ≡ spec.replace of.now old.now new.now) }

@@ -2,7 +2,7 @@
 ghost use Rattle.std.specs.Prelude.{◌≡◌, ◌∷◌, ◌++◌, [], length, IfOk, OnOk, true, option_map};
 ghost use Rattle.std.specs.List.{filter};
 ghost use Rattle.std.specs.Str.{all_scalars, chars};
-ghost use Rattle.star_value.specs.Cutting.{CutsAtWhite};
+ghost use Rattle.star_value.specs.Cutting.{CutsAtPoint};
 ghost use Rattle.star_value.specs.Texts as spec;
 
 use crate::cutting::Texts;
@@ -12,7 +12,7 @@ use std::alloc::Global;
 
 /// The pieces of `of` between runs of white space, of which none is empty. White space is space,
 /// `\t`, `\n`, `\r`, U+000B and U+000C, and nothing else. It takes time linear in `of`.
-#[tactic(auto, using(crate::proofs::Places::spells, crate::proofs::Words::words_more), unfolding(crate::specs::Texts::split_white))]
+#[tactic(auto, using(crate::proofs::Places::spells, crate::proofs::Words::steps), unfolding(crate::specs::Texts::split_white))]
 pub fn split_white(alloc: Global, of: &Text) -> Result<Texts, NoMemory>
     ensures { IfOk result (λ words. words ≡ spec.split_white of.now) }
 {
@@ -59,12 +59,12 @@ fn points(alloc: Global, text: &Text) -> Result<Vec<char>, NoMemory>
 }
 
 fn cut_white(text: &str) -> Option<(&str, &str)>
-    ensures { CutsAtWhite (chars text.now) result }
+    ensures { CutsAtPoint (spec.is_among spec.white) (chars text.now) result }
 {
     text.split_once(WHITE)
 }
 
-#[tactic(auto, using(crate::proofs::Words::no_word, crate::proofs::Words::some_word))]
+#[tactic(auto, using(crate::proofs::Words::pushes))]
 fn push_word(alloc: Global, words: &mut Texts, word: &str) -> Result<(), NoMemory>
     ensures { OnOk result (words.new ≡ words.old ++ filter spec.is_some_text (chars word.now ∷ [])) }
 {

@@ -3,7 +3,7 @@ use Rattle.std.specs.List.{filter}
 use Rattle.std.specs.Str.{chars}
 use denote.Text.{Utf8}
 use denote.Shadow.{shadow}
-use Rattle.star_value.specs.Cutting.{between_white}
+use Rattle.star_value.proofs.Words.{between_white}
 use Rattle.star_value.specs.Texts.{is_some_text, split_white}
 use Rattle.star_value.proofs.white.split_white.Given as goal
 
