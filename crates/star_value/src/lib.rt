@@ -26,3 +26,6 @@ pub use range::Range;
 pub use stop::Stop;
 pub use value::{Value, Values};
 pub use white::{split_white, strip};
+
+#[cfg(test)]
+mod tests;
