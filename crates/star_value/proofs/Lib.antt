@@ -5,3 +5,4 @@ pub mod Pieces
 pub mod Words
 pub mod Trims
 pub mod FormatLemmas
+pub mod SameKeys

@@ -4,3 +4,5 @@ pub mod Keys
 pub mod Texts
 pub mod Cutting
 pub mod Format
+pub mod KeyOrder
+pub mod KeyLaws

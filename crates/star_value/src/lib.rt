@@ -9,6 +9,7 @@ pub mod failure;
 pub mod finding;
 pub mod format;
 pub mod key;
+mod key_order;
 pub mod meter;
 pub mod range;
 pub mod stop;
