@@ -6,3 +6,4 @@ pub mod Cutting
 pub mod Format
 pub mod KeyOrder
 pub mod KeyLaws
+pub mod Ranges
