@@ -6,3 +6,4 @@ pub mod Words
 pub mod Trims
 pub mod FormatLemmas
 pub mod SameKeys
+pub mod KeyOrders

@@ -7,3 +7,4 @@ pub mod Format
 pub mod KeyOrder
 pub mod KeyLaws
 pub mod Ranges
+pub mod OrderLaws
