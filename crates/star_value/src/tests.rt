@@ -175,67 +175,119 @@ fn formats_are_cut_into_parts(rt: HostRuntime) -> Result<(), Fail> {
     Ok(())
 }
 
+/// What is expected of a value: its weight, its depth, and whether it is a key.
+fn value_row(
+    rt: &impl Abort,
+    alloc: Global,
+    row: &str,
+    value: &Value,
+    expected: (u64, u32, bool),
+) -> Result<(), Fail> {
+    let (weight, depth, is_key) = expected;
+    let copy = value.copy(alloc)?;
+    assert_eq!(rt; copy.weight(), weight, "{row}");
+    assert_eq!(rt; copy.depth(), depth, "{row}");
+    match Key::of(alloc, value) {
+        Ok(key) => {
+            assert!(rt; is_key, "{row}");
+            let again = key.copy(alloc)?.value(alloc)?;
+            assert_eq!(rt; again.weight(), weight, "{row}");
+            assert_eq!(rt; again.depth(), depth, "{row}");
+        }
+        Err(stop) => {
+            assert!(rt; !is_key, "{row}");
+            assert_eq!(rt; stop, Stop::Failure(Failure::Unhashable), "{row}");
+        }
+    }
+    Ok(())
+}
+
 fn pair(alloc: Global, first: Value, second: Value) -> Result<Value, NoMemory> {
-    let mut items = Items::new(alloc);
-    items.push(first)?;
-    items.push(second)?;
-    Ok(Value::Tuple(items))
+    Ok(Value::Tuple(Items::from_vec(vec![in alloc; first, second]?)))
 }
 
 #[test]
 fn values_have_weights_depths_and_keys(rt: HostRuntime) -> Result<(), Fail> {
     let alloc = rt.alloc();
-    let range = Range {
-        start: 0,
-        stop: 3,
-        step: 1,
-    };
-    let rows = [
-        ("None", Value::None, 1, 0, true),
-        ("bool", Value::Bool(true), 1, 0, true),
-        ("integer", Value::Int(-7), 1, 0, true),
-        ("text", Value::Text(text(alloc, "a\u{e9}")?), 3, 0, true),
-        ("empty tuple", Value::Tuple(Items::new(alloc)), 1, 1, true),
-        (
-            "tuple in a tuple",
-            pair(
-                alloc,
-                Value::Text(text(alloc, "ab")?),
-                pair(alloc, Value::None, Value::Int(1))?,
-            )?,
-            7,
-            2,
-            true,
-        ),
-        ("range", Value::Range(range), 1, 0, false),
-        ("list", Value::List(ObjectId(0)), 1, 0, false),
-        (
-            "list in a tuple",
-            pair(alloc, Value::None, Value::List(ObjectId(3)))?,
-            3,
-            1,
-            false,
-        ),
-        ("dict", Value::Dict(ObjectId(1)), 1, 0, false),
-        ("function", Value::Function(ObjectId(2)), 1, 0, false),
-        ("built-in", Value::Builtin(Builtin::Len), 1, 0, false),
-    ];
-    for (row, value, weight, depth, is_key) in &rows {
-        let copy = value.copy(alloc)?;
-        assert_eq!(rt; copy.weight(), *weight, "{row}");
-        assert_eq!(rt; copy.depth(), *depth, "{row}");
-        match Key::of(alloc, value) {
-            Ok(key) => {
-                assert!(rt; *is_key, "{row}");
-                let again = key.copy(alloc)?.value(alloc)?;
-                assert_eq!(rt; again.weight(), *weight, "{row}");
-                assert_eq!(rt; again.depth(), *depth, "{row}");
-            }
-            Err(stop) => {
-                assert!(rt; !*is_key, "{row}");
-                assert_eq!(rt; stop, Stop::Failure(Failure::Unhashable), "{row}");
-            }
+    value_row(&rt, alloc, "None", &Value::None, (1, 0, true))?;
+    value_row(&rt, alloc, "integer", &Value::Int(-7), (1, 0, true))?;
+    let two = Value::Text(text(alloc, "a\u{e9}")?);
+    value_row(&rt, alloc, "text", &two, (3, 0, true))?;
+    let empty = Value::Tuple(Items::new(alloc));
+    value_row(&rt, alloc, "empty tuple", &empty, (1, 1, true))?;
+    let nested = pair(alloc, two, pair(alloc, Value::None, Value::Bool(true))?)?;
+    value_row(&rt, alloc, "tuple in a tuple", &nested, (7, 2, true))?;
+    let list = Value::List(ObjectId(3));
+    value_row(&rt, alloc, "list", &list, (1, 0, false))?;
+    let holder = pair(alloc, Value::None, list)?;
+    value_row(&rt, alloc, "list in a tuple", &holder, (3, 1, false))?;
+    let range = Value::Range(range(0, 3, 1));
+    value_row(&rt, alloc, "range", &range, (1, 0, false))?;
+    value_row(&rt, alloc, "dict", &Value::Dict(ObjectId(1)), (1, 0, false))?;
+    value_row(
+        &rt,
+        alloc,
+        "function",
+        &Value::Function(ObjectId(2)),
+        (1, 0, false),
+    )?;
+    value_row(
+        &rt,
+        alloc,
+        "built-in",
+        &Value::Builtin(Builtin::Len),
+        (1, 0, false),
+    )
+}
+
+fn tuple(alloc: Global, first: Key, second: Key) -> Result<Key, NoMemory> {
+    Ok(Key::Tuple(Items::from_vec(vec![in alloc; first, second]?)))
+}
+
+#[test]
+fn keys_are_in_order(rt: HostRuntime) -> Result<(), Fail> {
+    let alloc = rt.alloc();
+    let keys = vec![in alloc;
+        Key::None,
+        Key::Bool(false),
+        Key::Bool(true),
+        Key::Int(-1),
+        Key::Int(1),
+        Key::Text(text(alloc, "a")?),
+        Key::Text(text(alloc, "ab")?),
+        Key::Text(text(alloc, "b")?),
+        Key::Tuple(Items::new(alloc)),
+        tuple(alloc, Key::None, Key::Int(2))?,
+        tuple(alloc, Key::Int(1), Key::None)?,
+    ]?;
+    for (at, key) in keys.iter().enumerate() {
+        for (place, other) in keys.iter().enumerate() {
+            assert_eq!(rt; key.cmp(other), at.cmp(&place), "{at} {place}");
+            assert_eq!(rt; key == other, at == place, "{at} {place}");
         }
+    }
+    Ok(())
+}
+
+fn range(start: i128, stop: i128, step: i128) -> Range {
+    Range { start, stop, step }
+}
+
+#[test]
+fn ranges_have_lengths(rt: HostRuntime) -> Result<(), Fail> {
+    let rows = [
+        (range(0, 3, 1), 3),
+        (range(0, 9, 2), 5),
+        (range(0, 10, 2), 5),
+        (range(5, 0, -2), 3),
+        (range(0, 5, -1), 0),
+        (range(3, 3, 1), 0),
+        (range(0, 5, 7), 1),
+        (range(i128::MIN, i128::MAX, 1), u128::MAX),
+        (range(i128::MAX, i128::MIN, i128::MIN), 2),
+    ];
+    for (range, count) in &rows {
+        assert_eq!(rt; range.len(), *count, "{range:?}");
     }
     Ok(())
 }
