@@ -7,3 +7,4 @@ pub mod Trims
 pub mod FormatLemmas
 pub mod SameKeys
 pub mod KeyOrders
+pub mod RangeLaws

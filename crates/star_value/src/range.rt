@@ -1,5 +1,5 @@
 //! Ranges of integers.
-ghost use Rattle.std.specs.Prelude.{◌≡◌};
+ghost use Rattle.std.specs.Prelude.{◌≡◌, ◌<◌, ◌↔◌, ℕ};
 ghost use Rattle.star_value.specs.Ranges as spec;
 
 /// The integers `start`, `start + step` and so on that lie before `stop`: below it where the step
@@ -16,7 +16,8 @@ impl Range {
     /// How many integers the range gives; none where the step is 0. It takes no memory, and the same
     /// time for every range.
     pub fn len(&self) -> u128
-        ensures { result ≡ spec.range_count self.now }
+        ensures count { result ≡ spec.range_count self.now }
+        ensures places { (place : ℕ) → (place < result) ↔ spec.IsGiven self.now place }
     {
         let is_ahead = if self.step > 0 {
             self.start < self.stop
