@@ -1,13 +1,13 @@
 -- The pieces of a text that is cut at the first place of a separator.
-use Rattle.std.proofs.Common.{◌≡◌, ℕ, zero, suc, ◌+◌, ◌-◌, ◌<◌, true, false, List, [], ◌∷◌, ◌++◌, length, Option, Some, None, refl, sym, ap, ◌∙◌, append_assoc, append-nil, inl, inr, arith}
+use Rattle.std.proofs.Common.{◌≡◌, ℕ, zero, suc, ◌+◌, ◌-◌, ◌<◌, true, false, List, [], ◌∷◌, ◌++◌, length, drop, Option, Some, None, refl, sym, ap, ◌∙◌, subst, append_assoc, append-nil, inl, inr, arith}
 use Rattle.std.specs.Prelude.{option_map}
 use Rattle.std.specs.List.{onto_first, flat_map}
 use Rattle.std.specs.Str.{chars}
 use Rattle.std.proofs.lemmas.Bool.{cases_Bool}
 use Rattle.std.proofs.lemmas.List.{length-append}
 use Rattle.star_value.specs.Cutting.{IsCut}
-use Rattle.star_value.specs.Texts.{starts_with, find, pieces, split, join, replace}
-use Rattle.star_value.proofs.Places.{starts_with-append, find_here, find_later}
+use Rattle.star_value.specs.Texts.{IsSplit, starts_with, find, pieces, split, join, replace}
+use Rattle.star_value.proofs.Places.{starts_rest, starts_with-append, find_here, find_later, find_nil}
 
 -- ---- one code point
 
@@ -114,6 +114,50 @@ shorter text by before after some cut =
     let long = ap length cut.parts ∙ length-append (chars before) (by ++ chars after) in
     let rest = length-append by (chars after) in
     omega arith
+
+-- ---- the pieces as a relation
+
+abbrev Parts : List ℕ → List ℕ → ℕ → Type 0
+Parts text by i = (before : List ℕ) × (after : List ℕ) × (text ≡ before ++ (by ++ after)) × (length before ≡ i)
+
+later_parts : (c : ℕ) (cs by : List ℕ) (i : ℕ) (o : Option ℕ) → find cs by ≡ o → option_map (λ place. place + 1) o ≡ Some i → ((m : ℕ) → find cs by ≡ Some m → Parts cs by m)
+    → Parts (c ∷ cs) by i
+later_parts c cs by i None is next parts = absurd (cc)
+later_parts c cs by i (Some m) is next parts =
+    let e : m + 1 ≡ i = cc in
+    let (before, after, whole, long) = parts m is in
+    (c ∷ before, after, ap (λ t. c ∷ t) whole, omega arith)
+
+place_parts : (text by : List ℕ) (i : ℕ) → find text by ≡ Some i → Parts text by i
+place_parts [] by i is = elim (cases_Bool (starts_with [] by)) as (λ b. Parts [] by i)
+    [ inl h ↦ let here = find_here [] by h in let e : 0 ≡ i = cc in ([], drop (length by) [], starts_rest [] by h, e) | inr h ↦ let none = find_nil by h in absurd (cc) ]
+place_parts (c ∷ cs) by i is = elim (cases_Bool (starts_with (c ∷ cs) by)) as (λ b. Parts (c ∷ cs) by i) [
+  | inl h ↦ let here = find_here (c ∷ cs) by h in let e : 0 ≡ i = cc in ([], drop (length by) (c ∷ cs), starts_rest (c ∷ cs) by h, e)
+  | inr h ↦ later_parts c cs by i (find cs by) refl (sym (find_later c cs by h) ∙ is) (place_parts cs by)
+]
+
+split_more_is : (text by piece rest : List ℕ) (pieces : List (List ℕ)) → IsSome pieces → find text by ≡ Some (length piece) → text ≡ piece ++ (by ++ rest) → IsSplit rest by pieces
+    → IsSplit text by (piece ∷ pieces)
+split_more_is text by piece rest pieces (p, ps, is) place whole more = subst (λ all. IsSplit text by (piece ∷ all)) (sym is) (place, (rest, whole, subst (IsSplit rest by) is more))
+
+split_from : (n : ℕ) (text by : List ℕ) (o : Option ℕ) → ((rest : List ℕ) → length rest < n → IsSplit rest by (split rest by)) → 0 < length by → length text < n + 1 → find text by ≡ o
+    → IsSplit text by (split text by)
+split_from n text by None shorter_is some within is = subst (IsSplit text by) (sym (split_none text by is)) (refl, is)
+split_from n text by (Some i) shorter_is some within is =
+    let (before, after, whole, long) = place_parts text by i is in
+    let place : find text by ≡ Some (length before) = is ∙ ap Some (sym long) in
+    let all : split text by ≡ before ∷ split after by = ap (λ t. split t by) whole ∙ split_front before after by some (sym (ap (λ t. find t by) whole) ∙ place) in
+    let size = ap length whole ∙ length-append before (by ++ after) in
+    let rest_size = length-append by after in
+    subst (IsSplit text by) (sym all) (split_more_is text by before after (split after by) (some_pieces after 0 by) place whole (shorter_is after (omega arith)))
+
+-- by recursion on more than the length of the text
+split_is_within : (n : ℕ) (text by : List ℕ) → 0 < length by → length text < n → IsSplit text by (split text by)
+split_is_within zero text by some within = absurd (omega arith)
+split_is_within (suc n) text by some within = split_from n text by (find text by) (λ rest less. split_is_within n rest by some less) some (omega arith) refl
+
+pub split_is : (text by : List ℕ) → 0 < length by → IsSplit text by (split text by)
+split_is text by some = split_is_within (length text + 1) text by some (omega arith)
 
 pub ruleset split_steps = (split_more, split_none, shorter)
 

@@ -32,7 +32,7 @@ pub find_later : (c : ℕ) (cs what : List ℕ) → starts_with (c ∷ cs) what 
 unfolding find
 find_later c cs what h = rw h refl
 
-find_nil : (what : List ℕ) → starts_with [] what ≡ false → find [] what ≡ None
+pub find_nil : (what : List ℕ) → starts_with [] what ≡ false → find [] what ≡ None
 unfolding find
 find_nil what h = rw h refl
 

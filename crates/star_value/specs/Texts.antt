@@ -1,5 +1,5 @@
 -- What the calls on texts answer. A text is the list of its code points.
-use Rattle.std.specs.Prelude.{ℕ, zero, suc, ◌+◌, ◌-◌, nat_eq, ◌==◌, Bool, not, List, [], ◌∷◌, length, reverse, Option, Some, None, option_map, if◌then◌else◌}
+use Rattle.std.specs.Prelude.{◌≡◌, ◌++◌, ℕ, zero, suc, ◌+◌, ◌-◌, nat_eq, ◌==◌, Bool, not, List, [], ◌∷◌, length, reverse, Option, Some, None, option_map, if◌then◌else◌}
 use Rattle.std.specs.List as list
 use Rattle.std.specs.Char.{char_set_contains}
 use Rattle.std.specs.List.{filter, join_by, onto_first, slice_split}
@@ -26,6 +26,13 @@ pieces (c ∷ cs) zero by = if starts_with (c ∷ cs) by then [] ∷ pieces cs (
 -- the pieces between the separators of a text, which are found from the left and do not overlap
 abbrev pub split : List ℕ → List ℕ → List (List ℕ)
 split of by = pieces of 0 by
+
+-- the pieces of a text again, as a relation: each piece but the last ends where the separator first stands in what is
+-- left, and what follows that separator is left then; the separator stands nowhere in the last piece
+abbrev pub IsSplit : List ℕ → List ℕ → List (List ℕ) → Type 0
+IsSplit of by [] = ⊥
+IsSplit of by (piece ∷ []) = (of ≡ piece) × (find of by ≡ None)
+IsSplit of by (piece ∷ next ∷ more) = (find of by ≡ Some (length piece)) × ((rest : List ℕ) × (of ≡ piece ++ (by ++ rest)) × IsSplit rest by (next ∷ more))
 
 -- the texts in order, with another between each two
 abbrev pub join : List ℕ → List (List ℕ) → List ℕ

@@ -16,7 +16,8 @@ pub type Texts = Items<Text>;
 #[tactic(auto, using(crate::proofs::Places::spells, crate::proofs::Pieces::split_steps))]
 pub fn split(alloc: Global, of: &Text, by: &Text) -> Result<Texts, NoMemory>
     requires { 0 < length by.now }
-    ensures { IfOk result (λ pieces. pieces ≡ spec.split of.now by.now) }
+    ensures pieces { IfOk result (λ pieces. pieces ≡ spec.split of.now by.now) }
+    ensures cuts { IfOk result (λ pieces. spec.IsSplit of.now by.now pieces) }
 {
     let mut pieces = Items::new(alloc);
     let mut rest = of.as_str();

@@ -31,7 +31,7 @@ pub fn ends_with(of: &Text, what: &Text) -> bool
 }
 
 /// What comes before the first place of `by` and what comes after it, if it stands in `text`.
-pub fn cut<'a>(text: &'a str, by: &Text) -> Option<(&'a str, &'a str)>
+pub(crate) fn cut<'a>(text: &'a str, by: &Text) -> Option<(&'a str, &'a str)>
     ensures { CutsAt (chars text.now) by.now result }
 {
     text.split_once(by.as_str())

@@ -25,7 +25,7 @@ pub use key::{Key, Keys};
 pub use meter::Meter;
 pub use range::Range;
 pub use stop::Stop;
-pub use value::{Value, Values};
+pub use value::{Value, Values, copy_values, greatest_depth, sum_of_weights};
 pub use white::{split_white, strip};
 
 #[cfg(test)]
