@@ -38,10 +38,10 @@ pub fn replace(alloc: Global, of: &Text, old: &Text, new: &Text) -> Result<Text,
 {
     let mut text = Text::new(alloc);
     let mut rest = of.as_str();
-    while let Some((piece, after)) = cut(rest, old) {
+    while let Some((piece, left)) = cut(rest, old) {
         text.push_str(piece)?;
         text.push_text(new)?;
-        rest = after;
+        rest = left;
     }
     text.push_str(rest)?;
     Ok(text)
