@@ -1,7 +1,6 @@
 -- What each form of an expression is to the node above it, and the walk over it.
-use Rattle.std.proofs.Common.{◌≡◌, ◌∙◌, ℕ, ℤ, Bool, true, false, List, [], ◌∷◌, ◌++◌, map, Option, Some, None, Result, Ok, Err, refl, ap, sym}
+use Rattle.std.proofs.Common.{◌≡◌, ◌∙◌, ℕ, ℤ, Bool, true, false, List, [], ◌∷◌, ◌++◌, map, Option, Some, None, Ok, Err, refl, ap, sym}
 use Rattle.std.specs.Prelude.{if◌then◌else◌}
-use Rattle.std.specs.FinSet as set
 use Rattle.std.specs.List.{flat_map}
 use Rattle.star_syntax.specs.declared.operator.UnaryOp.{UnaryOp}
 use Rattle.star_syntax.specs.declared.operator.CompareOp.{CompareOp}
@@ -9,7 +8,6 @@ use Rattle.star_syntax.specs.declared.expression.ChainLevel.{ChainLevel}
 use Rattle.star_syntax.specs.declared.expression.Link.{Link}
 use Rattle.star_syntax.specs.declared.expression.Named.{Named}
 use Rattle.star_syntax.specs.declared.expression.Pair.{Pair}
-use Rattle.star_syntax.specs.declared.expression.Arguments.{Arguments}
 use Rattle.star_syntax.specs.declared.expression.Suffix.{Suffix}
 use Rattle.star_syntax.specs.declared.expression.Suffix.TheVariants.{Index, Slice, Call, Method}
 use Rattle.star_syntax.specs.declared.expression.Clause.{Clause}
@@ -19,8 +17,8 @@ use Rattle.star_syntax.specs.declared.expression.Expr.TheOpen.{Expr-F}
 use Rattle.star_syntax.specs.declared.expression.Expr.TheVariants as e
 use Rattle.star_syntax.specs.Placement as rules
 use Rattle.star_syntax.specs.Placement.{Breach, InputNotLiteral, Use, Literal, Other, Seen, is_input, seen, layer_seen, suffix_uses, clause_uses, arguments_uses, optional_uses, step_uses, all_uses, head_uses, expr_sights}
-use Rattle.star_resolver.specs.Outcomes.{Names, Outcome, Work, and_then, each, walk}
-use Rattle.star_resolver.specs.Scans.{scan, names_input, literal, lone_literal, first_literal, name_read, scan_head, scan_optional, scan_step, scan_named, scan_arguments, scan_suffix, scan_clause, scan_pair, scan_link}
+use Rattle.star_resolver.specs.Outcomes.{Names, Work, and_then, each}
+use Rattle.star_resolver.specs.Scans.{scan, names_input, literal, lone_literal, first_literal, name_read, scan_head, scan_optional, scan_step, scan_named, scan_suffix, scan_clause, scan_pair, scan_link}
 use Rattle.star_resolver.proofs.Walks.{same_then, each-map, run, run-append, run-three, run-flat_map}
 
 at_layer : (d : Expr-F Expr) → seen (roll-Expr d) ≡ layer_seen (map-Expr Expr Seen seen d)

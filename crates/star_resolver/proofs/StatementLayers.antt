@@ -1,10 +1,9 @@
 -- The walk over each form of a statement.
-use Rattle.std.proofs.Common.{◌≡◌, ◌∙◌, ℕ, Bool, true, false, List, [], ◌∷◌, ◌++◌, map, Option, Some, None, Result, Ok, Err, refl, ap, sym}
+use Rattle.std.proofs.Common.{◌≡◌, ◌∙◌, ℕ, Bool, true, false, List, [], ◌∷◌, ◌++◌, map, Option, Some, None, Ok, Err, refl, ap, sym}
 use Rattle.std.specs.Prelude.{if◌then◌else◌}
 use Rattle.std.specs.FinSet as set
 use Rattle.std.specs.List.{flat_map}
 use Rattle.star_syntax.specs.declared.expression.Expr.{Expr}
-use Rattle.star_syntax.specs.declared.statement.Small.{Small}
 use Rattle.star_syntax.specs.declared.statement.SmallKind.{SmallKind}
 use Rattle.star_syntax.specs.declared.statement.SmallKind.TheVariants.{Return, Break, Continue, Pass, Assign, Augmented, Tests}
 use Rattle.star_syntax.specs.declared.statement.Line.{Line}
@@ -15,11 +14,11 @@ use Rattle.star_syntax.specs.declared.statement.Definition.{Definition}
 use Rattle.star_syntax.specs.declared.statement.Statement.{Statement, roll-Statement, map-Statement, fold-roll-Statement}
 use Rattle.star_syntax.specs.declared.statement.Statement.TheOpen.{Statement-F}
 use Rattle.star_syntax.specs.declared.statement.Statement.TheVariants as s
-use Rattle.star_syntax.specs.Placement.{Place, Parameter, Shows, Sight, Reads, Breaks, Breach, NestedDef, MisplacedReturn, MisplacedBreak, InputNotLiteral, RepeatedParameter, is_input, unless, where_broken, expr_sights, all_sights, name_sights, kind_sights, small_sights, line_sights, parameters, default_sights, parameter_sights, header_sights, block_sights, branch_sights, else_sights, layer_sights, statement_sights, in_branch, in_turn, in_body}
+use Rattle.star_syntax.specs.Placement.{Place, Parameter, Shows, Sight, Breach, NestedDef, MisplacedReturn, MisplacedBreak, InputNotLiteral, RepeatedParameter, is_input, unless, where_broken, expr_sights, all_sights, kind_sights, small_sights, line_sights, parameters, default_sights, parameter_sights, header_sights, block_sights, branch_sights, else_sights, layer_sights, statement_sights, in_branch, in_turn, in_body}
 use Rattle.star_resolver.specs.declared.error.ResolveFault.{ResolveFault}
 use Rattle.star_resolver.specs.declared.error.ResolveFault.TheVariants.{Bad, NoMemory}
 use Rattle.star_resolver.specs.Outcomes.{Names, Outcome, Work, Gives, and_then, each, walk}
-use Rattle.star_resolver.specs.Scans.{scan, scan_optional, allowed, scan_kind, scan_small, scan_line, parameter, scan_parameters, scan_header, scan_statement, scan_block, scan_branch, scan_else}
+use Rattle.star_resolver.specs.Scans.{scan, scan_optional, allowed, scan_kind, scan_small, scan_line, scan_parameters, scan_header, scan_statement, scan_block, scan_branch, scan_else}
 use Rattle.star_resolver.proofs.Walks.{same_then, each-map, each-same, walk-append, walk-flat_map}
 
 -- ---- small statements

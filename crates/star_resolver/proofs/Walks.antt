@@ -1,5 +1,5 @@
 -- Walks over lists that are joined, and over lists of lists.
-use Rattle.std.proofs.Common.{◌≡◌, ◌∙◌, ℕ, List, [], ◌∷◌, ◌++◌, map, Result, Ok, Err, refl, ap}
+use Rattle.std.proofs.Common.{◌≡◌, ◌∙◌, ℕ, List, [], ◌∷◌, ◌++◌, map, Ok, Err, refl, ap}
 use Rattle.std.specs.FinSet as set
 use Rattle.std.specs.List.{flat_map}
 use Rattle.star_syntax.specs.Placement.{Sight, Reads, Breaks, Use, Literal, Other, use_sight}

@@ -1,16 +1,15 @@
 -- What the walk over a whole tree says of its breaches and its names.
-use Rattle.std.proofs.Common.{◌≡◌, ◌∙◌, ℕ, List, [], ◌∷◌, ◌++◌, Option, Some, None, Result, Ok, Err, refl, ap, sym, append_assoc, append-nil}
+use Rattle.std.proofs.Common.{◌≡◌, ◌∙◌, ℕ, List, [], ◌∷◌, ◌++◌, Some, Ok, Err, refl, ap, sym, append_assoc, append-nil}
 use Rattle.std.specs.FinSet as set
 use Rattle.std.specs.FinSet.{from_list_push, slice_cmp-IsAntisymmetric, nat_cmp-IsAntisymmetric}
-use Rattle.std.specs.List.{flat_map, filter_map, slice_get}
+use Rattle.std.specs.List.{filter_map, slice_get}
 use Rattle.std.proofs.lemmas.Cmp.{nat_list_cmp_total}
-use Rattle.chex_base.specs.TextOrder.{text_cmp}
 use Rattle.star_syntax.specs.declared.statement.Module.{Module}
 use Rattle.star_syntax.specs.declared.statement.Statement.{Statement}
 use Rattle.star_syntax.specs.Placement.{Place, Sight, Reads, Breaks, Breach, IsPlaced, breaches, names_read, breach_of, name_of, sights, statement_sights, in_cell}
 use Rattle.star_resolver.specs.declared.error.ResolveFault.{ResolveFault}
 use Rattle.star_resolver.specs.declared.error.ResolveFault.TheVariants.{Bad, NoMemory}
-use Rattle.star_resolver.specs.Outcomes.{Names, Outcome, Gives, each, walk, breach_of as broken_rule}
+use Rattle.star_resolver.specs.Outcomes.{Names, Gives, each, walk, breach_of as broken_rule}
 use Rattle.star_resolver.specs.Resolved.{IsFirstBreach}
 use Rattle.star_resolver.specs.Scans.{scan_statement}
 use Rattle.star_resolver.proofs.Walks.{walk-flat_map}

@@ -1,5 +1,5 @@
 -- The walk over each form of a tree, over the walks of its parts.
-use Rattle.std.specs.Prelude.{◌≡◌, ℕ, Bool, true, false, List, [], ◌∷◌, Option, Some, None, Result, Ok, Err, if◌then◌else◌}
+use Rattle.std.specs.Prelude.{ℕ, Bool, false, List, [], ◌∷◌, Option, Some, None, Ok, Err, if◌then◌else◌}
 use Rattle.std.specs.FinSet as set
 use Rattle.star_syntax.specs.declared.expression.Link.{Link}
 use Rattle.star_syntax.specs.declared.expression.Named.{Named}
@@ -18,7 +18,7 @@ use Rattle.star_syntax.specs.declared.statement.Block.{Block}
 use Rattle.star_syntax.specs.declared.statement.Block.TheVariants.{Inline, Indented}
 use Rattle.star_syntax.specs.declared.statement.Branch.{Branch}
 use Rattle.star_syntax.specs.declared.statement.Statement.{Statement}
-use Rattle.star_syntax.specs.Placement.{Place, Parameter, Breach, NestedDef, MisplacedReturn, MisplacedBreak, InputNotLiteral, RepeatedParameter, is_input, seen, expr_sights, statement_sights}
+use Rattle.star_syntax.specs.Placement.{Place, Parameter, Breach, MisplacedReturn, MisplacedBreak, InputNotLiteral, RepeatedParameter, is_input, seen, expr_sights, statement_sights}
 use Rattle.star_resolver.specs.Outcomes.{Names, Outcome, Work, and_then, each, walk}
 
 -- ---- expressions of the statement of a line

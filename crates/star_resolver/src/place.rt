@@ -43,7 +43,8 @@ impl Place {
     {
         Place {
             is_direct: false,
-            ..self
+            in_function: self.in_function,
+            in_loop: self.in_loop,
         }
     }
 

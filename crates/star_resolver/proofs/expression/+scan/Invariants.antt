@@ -1,4 +1,4 @@
-use Rattle.std.proofs.Common.{◌≡◌, ℕ, ◌+◌, ◌*◌, drop}
+use Rattle.std.proofs.Common.{◌≡◌, ◌+◌, ◌*◌, drop}
 use Rattle.star_resolver.specs.Outcomes.{each}
 use Rattle.star_resolver.specs.Scans.{scan, scan_named, scan_suffix, scan_clause, scan_pair, scan_link}
 use Rattle.star_resolver.proofs.expression.+scan.Given as goal

@@ -1,4 +1,4 @@
-use Rattle.std.proofs.Common.{◌≡◌, ℕ, ◌+◌, ◌*◌, drop}
+use Rattle.std.proofs.Common.{◌≡◌, ◌+◌, ◌*◌, drop}
 use Rattle.star_resolver.specs.Outcomes.{each, stands}
 use Rattle.star_resolver.specs.Scans.{scan_statement, scan_branch}
 use Rattle.star_resolver.proofs.statement.+scan.Given as goal
