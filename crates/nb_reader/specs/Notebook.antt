@@ -1,7 +1,8 @@
 -- The sources of a notebook (nbformat 4), as a function of its JSON value that knows no reader.
-use Rattle.std.specs.Prelude.{ℕ, ◌+◌, ◌==◌, nat_lt, List, [], ◌∷◌, ◌++◌, length, Option, Some, None, Result, Ok, Err, option_map, option_and_then, bytes_eq, codes, if◌then◌else◌, string_bytes}
+use Rattle.std.specs.Prelude.{ℕ, ◌≤◌, ◌+◌, ◌==◌, nat_lt, List, [], ◌∷◌, ◌++◌, length, Option, Some, None, Result, Ok, Err, option_map, option_and_then, bytes_eq, codes, if◌then◌else◌, string_bytes}
 use Rattle.std.specs.Option.{option_or}
-use Rattle.std.specs.Str.{chars}
+use Rattle.std.specs.List.{AllByRecursion}
+use Rattle.std.specs.Str.{chars, encode_utf8_all}
 use Rattle.serde_json.specs.Data.{Data, Items, no_items, item, Members}
 use Rattle.serde_json.specs.Find.{get, as_str, as_number, as_u64, as_array, as_object}
 use Rattle.nb_reader.specs.Reading.{value_of, read_as}
@@ -90,3 +91,7 @@ sources_of d = object_or_refusal d (as_object d)
 -- the same of a file
 abbrev pub notebook_of : List ℕ → Result (List (List ℕ)) NbFault
 notebook_of bytes = read_as sources_of (value_of bytes)
+
+-- each source has at most 65,536 bytes
+abbrev pub AreShort : List (List ℕ) → Type 0
+AreShort sources = AllByRecursion (λ source. length (encode_utf8_all source) ≤ 65536) sources

@@ -2,7 +2,7 @@
 ghost use Rattle.std.specs.Prelude.{◌≡◌, ◌⊎◌, IfOk, option_map, string_bytes};
 ghost use Rattle.serde_json.specs.View.{view, items_view};
 ghost use Rattle.nb_reader.specs.Reading.{IsReading};
-ghost use Rattle.nb_reader.specs.Notebook.{notebook_of, sources_of, limited_to, cells_of, cell_of, cell_view, source_of, texts_of};
+ghost use Rattle.nb_reader.specs.Notebook.{AreShort, notebook_of, sources_of, limited_to, cells_of, cell_of, cell_view, source_of, texts_of};
 
 use crate::json::read_value;
 use crate::{Counted, NbFault, Sources};
@@ -23,7 +23,8 @@ const MOST_CELLS: usize = 64;
 ///
 /// A caller hands in at most 16,777,216 bytes, and counts them itself. The cost is linear.
 pub fn read_notebook(alloc: Global, bytes: &[u8]) -> Result<Sources, NbFault>
-    ensures { IsReading result (notebook_of bytes.now) }
+    ensures read { IsReading result (notebook_of bytes.now) }
+    ensures short { IfOk result AreShort }
 {
     let value = read_value(alloc, bytes)?;
     sources(alloc, &value)
@@ -31,7 +32,8 @@ pub fn read_notebook(alloc: Global, bytes: &[u8]) -> Result<Sources, NbFault>
 
 // The sources in a value that was read.
 fn sources(alloc: Global, value: &Value) -> Result<Sources, NbFault>
-    ensures { IsReading result (sources_of (view value.now)) }
+    ensures read { IsReading result (sources_of (view value.now)) }
+    ensures short { IfOk result AreShort }
 {
     if !value.is_object() {
         return Err(NbFault::NotObject);
@@ -48,7 +50,8 @@ fn sources(alloc: Global, value: &Value) -> Result<Sources, NbFault>
 
 // The sources, unless they are too many.
 fn limited(sources: Sources) -> Result<Sources, NbFault>
-    ensures { result ≡ limited_to sources }
+    ensures limited { result ≡ limited_to sources }
+    ensures same { IfOk result (λ found. found ≡ sources) }
 {
     let count = sources.as_slice().len();
     if count > MOST_CELLS {
@@ -62,7 +65,8 @@ fn limited(sources: Sources) -> Result<Sources, NbFault>
 
 // The sources of all code cells among the elements, or the first refusal of an element.
 fn cell_sources(alloc: Global, cells: &[Value]) -> Result<Sources, NbFault>
-    ensures { IsReading result (cells_of 1 (items_view cells.now)) }
+    ensures read { IsReading result (cells_of 1 (items_view cells.now)) }
+    ensures short { IfOk result AreShort }
 {
     let mut sources = Sources::new(alloc);
     for (place, cell) in cells.iter().enumerate() {
