@@ -1,13 +1,13 @@
 -- What is due, and what is left where a status is due.
-use Rattle.std.proofs.Common.{◌≡◌, ◌≢◌, ◌⊎◌, ◌≤◌, ◌+◌, ℕ, Bool, List, [], ◌∷◌, ◌++◌, Option, Some, None, Result, Ok, Err, sym, ◌∙◌, ap, subst, refl, inl, inr, codes}
+use Rattle.std.proofs.Common.{◌≡◌, ◌≢◌, ◌⊎◌, ◌≤◌, ◌+◌, ℕ, Bool, true, false, ◌&&◌, List, [], ◌∷◌, ◌++◌, Option, Some, None, Result, Ok, Err, sym, ◌∙◌, ap, subst, refl, inl, inr, codes}
 use Rattle.std.specs.Prelude.{IfSome, option_map, option_and_then}
-use Rattle.std.specs.List.{AllZip}
+use Rattle.std.specs.List.{list_all}
 use Rattle.chex_base.specs.Outside.{Rose}
 use Rattle.chex_base.specs.declared.status.Status.{Status}
 use Rattle.chex_base.specs.declared.status.Status.TheVariants as ended
 use Rattle.nb_reader.specs.declared.fault.NbFault.{NbFault}
 use Rattle.nb_reader.specs.declared.fault.NbFault.TheVariants as broken
-use Rattle.star_syntax.specs.declared.statement.Module.{Module}
+use Rattle.star_syntax.specs.CellParts.{CellParts}
 use Rattle.star_eval.specs.declared.cell.Ran.{Ran}
 use Rattle.star_eval.specs.declared.cell.End.{End}
 use Rattle.star_eval.specs.declared.cell.End.TheVariants as end
@@ -18,13 +18,17 @@ use Rattle.chex_cli.specs.declared.refusal.Refusal.{Refusal}
 use Rattle.chex_cli.specs.declared.refusal.Refusal.TheVariants.{Usage, Absent, ReadFailed, BadFile, NoMemory}
 use Rattle.chex_cli.specs.declared.version.Job.{Job}
 use Rattle.chex_cli.specs.declared.version.Version.{Version}
-use Rattle.chex_cli.specs.declared.thin.Runnable.{Runnable}
+use Rattle.chex_cli.specs.declared.runs.Runnable.{Runnable}
 use Rattle.chex_cli.specs.Words.{command_of}
 use Rattle.chex_cli.specs.Refusals.{status_of, file_status, line_of}
 use Rattle.chex_cli.specs.Reads.{Told, Refuses, Answers, IsCounted}
 use Rattle.chex_cli.specs.Due.{due}
-use Rattle.chex_cli.specs.Thin.{IsShortThin, IsRunnable, AreRunnable, IsNotThin, text_by, version_text, run_text, job_text, front}
-use Rattle.chex_cli.specs.Ends.{IsRun, IsNotBuilt, IsRefused, IsDue, Yields}
+use Rattle.chex_cli.specs.declared.bad_cell.BadCell.{BadCell}
+use Rattle.chex_cli.specs.BadCells as cells
+use Rattle.chex_cli.specs.Jobs.{IsRunnable, AreRunnable, IsFirstBad, is_thin_cell, is_thin_run, are_thin}
+use Rattle.chex_cli.specs.Texts.{text_by, version_text, run_text, job_text, front}
+use Rattle.chex_cli.specs.Ends.{IsRun, IsNotBuilt, IsRefusedCell, IsRefused, IsDecided, IsDue, Yields}
+use Rattle.chex_cli.proofs.CellLemmas.{bad_apart, thin_same}
 
 file_write_fault : (fault : NbFault) → file_status fault ≡ ended.WriteFault → ⊥
 file_write_fault broken.NotJson h = cc
@@ -51,7 +55,8 @@ pub due_write_fault : (told : Option Told) (words : List (List ℕ)) (status : S
 due_write_fault told words status text is h = elim is [
   | inl run ↦ let both : ended.Done ≡ ended.WriteFault = sym run.0 ∙ h in cc
   | inr (inl not) ↦ let both : ended.NotBuilt ≡ ended.WriteFault = sym not.0 ∙ h in cc
-  | inr (inr why) ↦ refusal_write_fault why.why (sym why.status_is ∙ h)
+  | inr (inr (inl bad)) ↦ let both : ended.BadCell ≡ ended.WriteFault = sym bad.0 ∙ h in cc
+  | inr (inr (inr why)) ↦ refusal_write_fault why.why (sym why.status_is ∙ h)
 ]
 
 -- counts, by the status of a refusal
@@ -103,38 +108,41 @@ module _ (a0 a1 f0 f1 : ℕ) (words : List (List ℕ)) where
   usage_worded r (inr h) is = absurd (subst (λ (r : Refusal). IsCounted r a0 a1 f0 f1) is h)
 
 -- thin cells have a text
-thin_module : (source : List ℕ) (m : Module) (allowance : ℕ) (globals : State) → IsShortThin source m → run_cell m allowance globals ≡ None → ⊥
-thin_module source m allowance globals thin none = thin_runs m thin.1.cell.lines allowance globals thin.1.cell.tree none
-
 text_by_some : (cell : ℕ) (out : List ℕ) (e : End) (rest : Option (List ℕ)) → (rest ≡ None → ⊥) → text_by cell out e rest ≡ None → ⊥
 text_by_some cell out end.Done None some h = some refl
 text_by_some cell out end.Done (Some more) some h = cc
 text_by_some cell out (end.Failed why line) rest some h = cc
 
-version_some : (cell : ℕ) (globals : State) (sources : List (List ℕ)) (ms : List Module) → AllZip IsShortThin sources ms → version_text cell globals ms ≡ None → ⊥
+both : (a b : Bool) → (a && b) ≡ true → (a ≡ true) × (b ≡ true)
+both true b h = (refl, h)
+both false b h = cc
+
+version_some : (cell : ℕ) (globals : State) (xs : List CellParts) → list_all is_thin_cell xs ≡ true → version_text cell globals xs ≡ None → ⊥
 unfolding version_text
-version_some cell globals sources [] thin h = cc
-version_some cell globals [] (m ∷ ms) thin h = absurd thin
-version_some cell globals (source ∷ sources) (m ∷ ms) thin h = by (λ after. version_some (cell + 1) after sources ms thin.1) (run_cell m 1000000 globals) refl h
+version_some cell globals [] thin h = cc
+version_some cell globals (x ∷ xs) thin h =
+    let each = both (is_thin_cell x) (list_all is_thin_cell xs) thin in
+    by each.0 (λ after. version_some (cell + 1) after xs each.1) (run_cell x.module 1000000 globals) refl h
   where
-    by : ((after : State) → version_text (cell + 1) after ms ≡ None → ⊥) → (o : Option (Ran × State)) → run_cell m 1000000 globals ≡ o
-        → option_and_then (λ p. text_by cell p.0.out p.0.end (version_text (cell + 1) p.1 ms)) o ≡ None → ⊥
-    by more None is none = thin_module source m 1000000 globals thin.0 is
-    by more (Some p) is none = text_by_some cell p.0.out p.0.end (version_text (cell + 1) p.1 ms) (more p.1) none
+    by : is_thin_cell x ≡ true → ((after : State) → version_text (cell + 1) after xs ≡ None → ⊥) → (o : Option (Ran × State)) → run_cell x.module 1000000 globals ≡ o
+        → option_and_then (λ p. text_by cell p.0.out p.0.end (version_text (cell + 1) p.1 xs)) o ≡ None → ⊥
+    by one more None is none = thin_runs x.module 1000000 globals one is
+    by one more (Some p) is none = text_by_some cell p.0.out p.0.end (version_text (cell + 1) p.1 xs) (more p.1) none
 
 mapped_some : (f : List ℕ → List ℕ) (o : Option (List ℕ)) → (o ≡ None → ⊥) → option_map f o ≡ None → ⊥
 mapped_some f None some h = some refl
 mapped_some f (Some x) some h = cc
 
-pub job_some : (headed : Bool) (versions : List Version) (runs : List Runnable) → AreRunnable versions runs → job_text headed runs ≡ None → ⊥
+pub job_some : (headed : Bool) (runs : List Runnable) → are_thin runs ≡ true → job_text headed runs ≡ None → ⊥
 unfolding job_text
-job_some headed versions [] are h = cc
-job_some headed [] (run ∷ runs) are h = absurd are
-job_some headed (version ∷ versions) (run ∷ runs) are h = by (job_some headed versions runs are.1) (run_text headed run) refl h
+job_some headed [] thin h = cc
+job_some headed (run ∷ runs) thin h =
+    let each = both (is_thin_run run) (are_thin runs) thin in
+    by each.0 (job_some headed runs each.1) (run_text headed run) refl h
   where
-    by : (job_text headed runs ≡ None → ⊥) → (o : Option (List ℕ)) → run_text headed run ≡ o → option_and_then (λ text. option_map (λ rest. text ++ rest) (job_text headed runs)) o ≡ None → ⊥
-    by more None is none = mapped_some (λ text. front headed run.name ++ text) (version_text 1 [] run.modules) (version_some 1 [] version.sources run.modules are.0.1) is
-    by more (Some text) is none = mapped_some (λ rest. text ++ rest) (job_text headed runs) more none
+    by : is_thin_run run ≡ true → (job_text headed runs ≡ None → ⊥) → (o : Option (List ℕ)) → run_text headed run ≡ o → option_and_then (λ text. option_map (λ rest. text ++ rest) (job_text headed runs)) o ≡ None → ⊥
+    by one more None is none = mapped_some (λ text. front headed run.name ++ text) (version_text 1 [] run.cells) (version_some 1 [] run.cells one) is
+    by one more (Some text) is none = mapped_some (λ rest. text ++ rest) (job_text headed runs) more none
 
 same_job : (i j : Job) (x : Result Job Refusal) → x ≡ Ok i → x ≡ Ok j → i ≡ j
 same_job i j x h k = cc
@@ -159,35 +167,55 @@ module _ (file : Told) (words : List (List ℕ)) (status : Status) (text : List 
   refused_yields r h = elim is [
     | inl run ↦ let both : Ok run.1.job ≡ Err r = sym run.1.read ∙ h in cc
     | inr (inl not) ↦ let both : Ok not.2.job ≡ Err r = sym not.2.read ∙ h in cc
-    | inr (inr why) ↦ refusal_yields why.why r why.some why.status_is why.is_due h
+    | inr (inr (inl bad)) ↦ let both : Ok bad.1.job ≡ Err r = sym bad.1.read ∙ h in cc
+    | inr (inr (inr why)) ↦ refusal_yields why.why r why.some why.status_is why.is_due h
   ]
 
-  pub not_built_yields : (job : Job) → (due file words).1 ≡ Ok job → IsNotThin job → Yields ended.NotBuilt status
-  not_built_yields job h not_thin = elim is [
-    | inl run ↦ absurd (not_thin run.1.runs (subst (λ (j : Job). AreRunnable j.versions run.1.runs) (same_job run.1.job job (due file words).1 run.1.read h) run.1.thin))
+  -- the versions of the two readings are the same
+  moved : (P : Job → Type 0) (i j : Job) → (due file words).1 ≡ Ok i → (due file words).1 ≡ Ok j → P i → P j
+  moved P i j h k x = subst P (same_job i j (due file words).1 h k) x
+
+  pub bad_cell_yields : (job : Job) (bad : BadCell) → (due file words).1 ≡ Ok job → IsFirstBad job.versions bad → Yields ended.BadCell status
+  bad_cell_yields job bad h first = elim is [
+    | inl run ↦ absurd (bad_apart job.versions run.1.runs bad (moved (λ j. AreRunnable j.versions run.1.runs) run.1.job job run.1.read h run.1.are) first)
+    | inr (inl not) ↦ absurd (bad_apart job.versions not.2.runs bad (moved (λ j. AreRunnable j.versions not.2.runs) not.2.job job not.2.read h not.2.are) first)
+    | inr (inr (inl found)) ↦ inl found.0
+    | inr (inr (inr why)) ↦ refusal_stops ended.BadCell why.why job why.some why.status_is why.is_due h
+  ]
+
+  pub not_built_yields : (job : Job) (runs : List Runnable) → (due file words).1 ≡ Ok job → AreRunnable job.versions runs → are_thin runs ≡ false → Yields ended.NotBuilt status
+  not_built_yields job runs h are not_thin = elim is [
+    | inl run ↦
+        let same : are_thin run.1.runs ≡ are_thin runs = thin_same job.versions run.1.runs runs (moved (λ j. AreRunnable j.versions run.1.runs) run.1.job job run.1.read h run.1.are) are in
+        let never : true ≡ false = sym run.1.thin ∙ same ∙ not_thin in cc
     | inr (inl not) ↦ inl not.0
-    | inr (inr why) ↦ refusal_stops ended.NotBuilt why.why job why.some why.status_is why.is_due h
+    | inr (inr (inl found)) ↦ absurd (bad_apart job.versions runs found.1.bad are (moved (λ j. IsFirstBad j.versions found.1.bad) found.1.job job found.1.read h found.1.first))
+    | inr (inr (inr why)) ↦ refusal_stops ended.NotBuilt why.why job why.some why.status_is why.is_due h
   ]
 
-  pub done_yields : (job : Job) (runs : List Runnable) → (due file words).1 ≡ Ok job → AreRunnable job.versions runs → Yields ended.Done status
-  done_yields job runs h are = elim is [
+  pub done_yields : (job : Job) (runs : List Runnable) → (due file words).1 ≡ Ok job → AreRunnable job.versions runs → are_thin runs ≡ true → Yields ended.Done status
+  done_yields job runs h are thin = elim is [
     | inl run ↦ inl run.0
-    | inr (inl not) ↦ absurd (not.2.not_thin runs (subst (λ (j : Job). AreRunnable j.versions runs) (same_job job not.2.job (due file words).1 h not.2.read) are))
-    | inr (inr why) ↦ refusal_stops ended.Done why.why job why.some why.status_is why.is_due h
+    | inr (inl not) ↦
+        let same : are_thin not.2.runs ≡ are_thin runs = thin_same job.versions not.2.runs runs (moved (λ j. AreRunnable j.versions not.2.runs) not.2.job job not.2.read h not.2.are) are in
+        let never : false ≡ true = sym not.2.not_thin ∙ same ∙ thin in cc
+    | inr (inr (inl found)) ↦ absurd (bad_apart job.versions runs found.1.bad are (moved (λ j. IsFirstBad j.versions found.1.bad) found.1.job job found.1.read h found.1.first))
+    | inr (inr (inr why)) ↦ refusal_stops ended.Done why.why job why.some why.status_is why.is_due h
   ]
 
 -- what is due where versions were read, and where a refusal came
 pub job_due : (told : Option Told) (words : List (List ℕ)) (job : Job) (status : Status) (text : List ℕ) → IfSome told (λ file. (due file words).1 ≡ Ok job)
-    → ((status ≡ ended.Done) × (runs : List Runnable) × AreRunnable job.versions runs × (job_text job.headed runs ≡ Some text)) ⊎ ((status ≡ ended.NotBuilt) × (text ≡ codes "error: not built\n") × IsNotThin job)
-    → IsDue told words status text
+    → IsDecided job status text → IsDue told words status text
 job_due None words job status text read (inl run) = inl (run.0, tt)
-job_due (Some file) words job status text read (inl run) = inl (run.0, record { job = job; read = read; runs = run.1; thin = run.2; printed = run.3 })
-job_due None words job status text read (inr not) = inr (inl (not.0, not.1, tt))
-job_due (Some file) words job status text read (inr not) = inr (inl (not.0, not.1, record { job = job; read = read; not_thin = not.2 }))
+job_due (Some file) words job status text read (inl run) = inl (run.0, record { job = job; read = read; runs = run.1; are = run.2; thin = run.3; printed = run.4 })
+job_due None words job status text read (inr (inl not)) = inr (inl (not.0, not.1, tt))
+job_due (Some file) words job status text read (inr (inl not)) = inr (inl (not.0, not.1, record { job = job; read = read; runs = not.2; are = not.3; not_thin = not.4 }))
+job_due None words job status text read (inr (inr bad)) = inr (inr (inl (bad.0, tt)))
+job_due (Some file) words job status text read (inr (inr bad)) = inr (inr (inl (bad.0, record { job = job; read = read; bad = bad.1; first = bad.2; line = bad.3 })))
 
 pub refusal_due : (told : Option Told) (words : List (List ℕ)) (r : Refusal) (status : Status) (text : List ℕ) → IfSome told (λ file. Refuses (due file words) r)
     → (r ≡ Usage → command_of words ≡ None) → (r ≢ NoMemory) × (status ≡ status_of r) × (text ≡ line_of r) → IsDue told words status text
-refusal_due told words r status text h worded is = inr (inr (record { why = r; some = is.0; status_is = is.1; line = is.2; worded = worded; is_due = h }))
+refusal_due told words r status text h worded is = inr (inr (inr (record { why = r; some = is.0; status_is = is.1; line = is.2; worded = worded; is_due = h })))
 
 -- the same of each library
 pub all_some : (told : Option Told) (P : Told → Type 0) → ((file : Told) → P file) → IfSome told P
@@ -202,16 +230,23 @@ module _ (told : Option Told) (words : List (List ℕ)) (status : Status) (text 
       by None is = tt
       by (Some file) is = refused_yields file words status text is
 
-  pub told_not_built : IsDue told words status text → IfSome told (λ file. (job : Job) → (due file words).1 ≡ Ok job → IsNotThin job → Yields ended.NotBuilt status)
+  pub told_bad_cell : IsDue told words status text → IfSome told (λ file. (job : Job) (bad : BadCell) → (due file words).1 ≡ Ok job → IsFirstBad job.versions bad → Yields ended.BadCell status)
+  told_bad_cell is = by told is
+    where
+      by : (told : Option Told) → IsDue told words status text → IfSome told (λ file. (job : Job) (bad : BadCell) → (due file words).1 ≡ Ok job → IsFirstBad job.versions bad → Yields ended.BadCell status)
+      by None is = tt
+      by (Some file) is = bad_cell_yields file words status text is
+
+  pub told_not_built : IsDue told words status text → IfSome told (λ file. (job : Job) (runs : List Runnable) → (due file words).1 ≡ Ok job → AreRunnable job.versions runs → are_thin runs ≡ false → Yields ended.NotBuilt status)
   told_not_built is = by told is
     where
-      by : (told : Option Told) → IsDue told words status text → IfSome told (λ file. (job : Job) → (due file words).1 ≡ Ok job → IsNotThin job → Yields ended.NotBuilt status)
+      by : (told : Option Told) → IsDue told words status text → IfSome told (λ file. (job : Job) (runs : List Runnable) → (due file words).1 ≡ Ok job → AreRunnable job.versions runs → are_thin runs ≡ false → Yields ended.NotBuilt status)
       by None is = tt
       by (Some file) is = not_built_yields file words status text is
 
-  pub told_done : IsDue told words status text → IfSome told (λ file. (job : Job) (runs : List Runnable) → (due file words).1 ≡ Ok job → AreRunnable job.versions runs → Yields ended.Done status)
+  pub told_done : IsDue told words status text → IfSome told (λ file. (job : Job) (runs : List Runnable) → (due file words).1 ≡ Ok job → AreRunnable job.versions runs → are_thin runs ≡ true → Yields ended.Done status)
   told_done is = by told is
     where
-      by : (told : Option Told) → IsDue told words status text → IfSome told (λ file. (job : Job) (runs : List Runnable) → (due file words).1 ≡ Ok job → AreRunnable job.versions runs → Yields ended.Done status)
+      by : (told : Option Told) → IsDue told words status text → IfSome told (λ file. (job : Job) (runs : List Runnable) → (due file words).1 ≡ Ok job → AreRunnable job.versions runs → are_thin runs ≡ true → Yields ended.Done status)
       by None is = tt
       by (Some file) is = done_yields file words status text is

@@ -1,5 +1,7 @@
 pub mod ReadLemmas
-pub mod SourceLemmas
 pub mod ZipLemmas
+pub mod FirstLemmas
+pub mod CellLemmas
+pub mod KnownLemmas
 pub mod TextLemmas
 pub mod EndLemmas

@@ -2,5 +2,8 @@ pub mod Words
 pub mod Refusals
 pub mod Reads
 pub mod Due
-pub mod Thin
+pub mod Cells
+pub mod BadCells
+pub mod Jobs
+pub mod Texts
 pub mod Ends

@@ -1,10 +1,10 @@
 //! The top call.
-ghost use Rattle.std.specs.Prelude.{◌≡◌, None, Ok, Err, IfSome, List, map, string_bytes};
+ghost use Rattle.std.specs.Prelude.{◌≡◌, None, Ok, Err, true, false, IfSome, List, map, string_bytes};
 ghost use Rattle.chex_base.specs.Outside.{Rose};
 ghost use Rattle.chex_cli.specs.Due.{due};
 ghost use Rattle.chex_cli.specs.Ends.{IsDue, Wrote, Yields};
 ghost use Rattle.chex_cli.specs.Refusals.{status_of};
-ghost use Rattle.chex_cli.specs.Thin.{AreRunnable, IsNotThin};
+ghost use Rattle.chex_cli.specs.Jobs.{AreRunnable, IsFirstBad, are_thin};
 ghost use Rattle.chex_cli.specs.Words.{command_of};
 
 use crate::decide::decide;
@@ -41,11 +41,13 @@ pub fn chex<L: Library, W: Sink>(
     ensures usage { command_of (map string_bytes words.now) ≡ None → Yields Status.Usage result.status }
     // So is what the words and the files refuse, with the status of the first refusal, unless a read fails too;
     ensures refused { IfSome (L.files library.old) (λ file. (r : _) → (due file (map string_bytes words.now)).1 ≡ Err r → Yields (status_of r) result.status) }
-    // and so are versions of which some cell is not thin. Versions whose cells all are thin run.
-    ensures not_built { IfSome (L.files library.old) (λ file. (job : _) → (due file (map string_bytes words.now)).1 ≡ Ok job → IsNotThin job
-        → Yields Status.NotBuilt result.status) }
+    // and so are versions of which some source gives no cell, and versions of which some cell is not thin. Versions whose cells all are thin run.
+    ensures bad_cell { IfSome (L.files library.old) (λ file. (job : _) (bad : _) → (due file (map string_bytes words.now)).1 ≡ Ok job → IsFirstBad job.versions bad
+        → Yields Status.BadCell result.status) }
+    ensures not_built { IfSome (L.files library.old) (λ file. (job : _) (runs : _) → (due file (map string_bytes words.now)).1 ≡ Ok job → AreRunnable job.versions runs
+        → are_thin runs ≡ false → Yields Status.NotBuilt result.status) }
     ensures done { IfSome (L.files library.old) (λ file. (job : _) (runs : _) → (due file (map string_bytes words.now)).1 ≡ Ok job → AreRunnable job.versions runs
-        → Yields Status.Done result.status) }
+        → are_thin runs ≡ true → Yields Status.Done result.status) }
 {
     match decide(alloc, words, library) {
         Err(NoMemory) => Finish {

@@ -1,16 +1,17 @@
 //! What is to be written, made whole before the first write.
-ghost use Rattle.std.specs.Prelude.{◌≡◌, ◌≢◌, ◌⊎◌, None, Some, IfOk, map, string_bytes, codes};
+ghost use Rattle.std.specs.Prelude.{◌≡◌, ◌≢◌, ◌⊎◌, None, Some, true, false, IfOk, map, string_bytes, codes};
 ghost use Rattle.chex_base.specs.Outside.{Rose};
-ghost use Rattle.chex_cli.specs.Ends.{IsDue};
+ghost use Rattle.chex_cli.specs.Ends.{IsDue, IsDecided};
+ghost use Rattle.chex_cli.specs.Jobs.{AreAllShort, are_thin};
 ghost use Rattle.chex_cli.specs.Refusals.{status_of, line_of};
-ghost use Rattle.chex_cli.specs.Thin as thin;
+ghost use Rattle.chex_cli.specs.Texts.{job_text};
 ghost use Rattle.chex_cli.specs.Words.{command_of};
 
 use crate::decision::Decision;
 use crate::files::due;
 use crate::refusal::Refusal;
+use crate::runs::{Runnable, RunsFault, are_thin, runnables};
 use crate::texts::job_text;
-use crate::thin::runnables;
 use crate::version::Job;
 use chex_base::{Library, NoMemory, Status};
 use std::alloc::Global;
@@ -45,16 +46,31 @@ fn refused(alloc: Global, refusal: &Refusal) -> Result<Decision, NoMemory>
     })
 }
 
-/// The text of versions whose cells all are thin.
+/// What versions call for: their text where their cells all are thin, and a refusal elsewhere.
 fn of_job(alloc: Global, job: &Job) -> Result<Decision, NoMemory>
-    ensures { IfOk result (λ d.
-        ((d.status ≡ Status.Done) × (runs : _) × thin.AreRunnable job.now.versions runs × (thin.job_text job.now.headed runs ≡ Some (string_bytes d.text)))
-        ⊎ ((d.status ≡ Status.NotBuilt) × (string_bytes d.text ≡ codes "error: not built\n") × thin.IsNotThin job.now)) }
+    requires { AreAllShort job.now.versions }
+    ensures { IfOk result (λ d. IsDecided job.now d.status (string_bytes d.text)) }
 {
-    let Some(runs) = runnables(alloc, job.versions.as_slice())? else {
+    match runnables(alloc, job.versions.as_slice()) {
+        Ok(runs) => of_runs(alloc, job.headed, &runs),
+        Err(RunsFault::Bad(bad)) => Ok(Decision {
+            status: Status::BadCell,
+            text: bad.line(alloc)?,
+        }),
+        Err(RunsFault::NoMemory) => Err(NoMemory),
+    }
+}
+
+/// The text of versions whose cells all are thin.
+fn of_runs(alloc: Global, headed: bool, runs: &[Runnable]) -> Result<Decision, NoMemory>
+    ensures { IfOk result (λ d.
+        ((d.status ≡ Status.Done) × (are_thin runs.now ≡ true) × (job_text headed runs.now ≡ Some (string_bytes d.text)))
+        ⊎ ((d.status ≡ Status.NotBuilt) × (string_bytes d.text ≡ codes "error: not built\n") × (are_thin runs.now ≡ false))) }
+{
+    if !are_thin(runs) {
         return not_built(alloc);
-    };
-    match job_text(alloc, job.headed, &runs)? {
+    }
+    match job_text(alloc, headed, runs)? {
         Some(text) => Ok(Decision {
             status: Status::Done,
             text,

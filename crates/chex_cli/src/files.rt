@@ -3,6 +3,8 @@ ghost use Rattle.std.specs.Prelude.{◌≡◌, ◌≤◌, ◌⊎◌, None, Ok, E
 ghost use Rattle.chex_cli.specs.Reads as reads;
 ghost use Rattle.chex_cli.specs.Reads.{Answers, Refuses, IsCounted};
 ghost use Rattle.chex_cli.specs.Due as spec;
+ghost use Rattle.chex_cli.specs.Jobs.{AreAllShort};
+ghost use Rattle.nb_reader.specs.Notebook.{AreShort};
 ghost use Rattle.chex_cli.specs.Words.{command_of};
 
 use crate::command::{Command, command_of};
@@ -23,6 +25,7 @@ pub fn due<L: Library>(alloc: Global, words: &[String], library: &mut L) -> Resu
     ensures due { IfSome (L.files library.old) (λ file. Answers (spec.due file (map string_bytes words.now)) result) }
     ensures counted { IfErr result (λ r. ((r ≡ Refusal.Usage) × (command_of (map string_bytes words.now) ≡ None)) ⊎ IsCounted r (L.absences library.old) (L.absences library.new) (L.faults library.old) (L.faults library.new)) }
     ensures usage { command_of (map string_bytes words.now) ≡ None → (result ≡ Err Refusal.Usage) ⊎ (result ≡ Err Refusal.NoMemory) }
+    ensures short { IfOk result (λ job. AreAllShort job.versions) }
 {
     match command_of(alloc, words)? {
         None => Err(Refusal::Usage),
@@ -38,6 +41,7 @@ fn command_job<L: Library>(
 ) -> Result<Job, Refusal>
     ensures due { IfSome (L.files library.old) (λ told. Answers (spec.command_due told command.now) result) }
     ensures counted { IfErr result (λ r. IsCounted r (L.absences library.old) (L.absences library.new) (L.faults library.old) (L.faults library.new)) }
+    ensures short { IfOk result (λ job. AreAllShort job.versions) }
 {
     match command {
         Command::Solo(file) => solo(alloc, library, file),
@@ -48,6 +52,7 @@ fn command_job<L: Library>(
 fn solo<L: Library>(alloc: Global, library: &mut L, file: &Text) -> Result<Job, Refusal>
     ensures due { IfSome (L.files library.old) (λ told. Answers (spec.solo_due told file.now) result) }
     ensures counted { IfErr result (λ r. IsCounted r (L.absences library.old) (L.absences library.new) (L.faults library.old) (L.faults library.new)) }
+    ensures short { IfOk result (λ job. AreAllShort job.versions) }
 {
     let sources = notebook(alloc, library, file)?;
     Ok(solo_job(alloc, sources)?)
@@ -56,6 +61,7 @@ fn solo<L: Library>(alloc: Global, library: &mut L, file: &Text) -> Result<Job, 
 fn alone<L: Library>(alloc: Global, library: &mut L, file: &Text) -> Result<Job, Refusal>
     ensures due { IfSome (L.files library.old) (λ told. Answers (spec.alone_due told file.now) result) }
     ensures counted { IfErr result (λ r. IsCounted r (L.absences library.old) (L.absences library.new) (L.faults library.old) (L.faults library.new)) }
+    ensures short { IfOk result (λ job. AreAllShort job.versions) }
 {
     let manifest = manifest(alloc, library, file)?;
     let versions = versions(alloc, library, manifest.versions.as_slice())?;
@@ -89,6 +95,7 @@ fn versions<L: Library>(
 ) -> Result<Versions, Refusal>
     ensures due { IfSome (L.files library.old) (λ told. Answers (spec.versions_at told entries.now) result) }
     ensures counted { IfErr result (λ r. IsCounted r (L.absences library.old) (L.absences library.new) (L.faults library.old) (L.faults library.new)) }
+    ensures short { IfOk result AreAllShort }
 {
     let mut versions = Versions::new(alloc);
     for entry in entries {
@@ -104,6 +111,7 @@ fn version<L: Library>(alloc: Global, library: &mut L, entry: &Entry) -> Result<
     ensures counted { IfErr result (λ r. IsCounted r (L.absences library.old) (L.absences library.new) (L.faults library.old) (L.faults library.new)) }
     ensures later { (L.absences library.old ≤ L.absences library.new) × (L.faults library.old ≤ L.faults library.new) }
     ensures files { L.files library.new ≡ L.files library.old }
+    ensures short { IfOk result (λ version. AreShort version.sources) }
 {
     let sources = notebook(alloc, library, &entry.notebook)?;
     let inputs = inputs(alloc, library, &entry.inputs)?;
@@ -120,6 +128,7 @@ fn notebook<L: Library>(alloc: Global, library: &mut L, file: &Text) -> Result<S
     ensures counted { IfErr result (λ r. IsCounted r (L.absences library.old) (L.absences library.new) (L.faults library.old) (L.faults library.new)) }
     ensures later { (L.absences library.old ≤ L.absences library.new) × (L.faults library.old ≤ L.faults library.new) }
     ensures files { L.files library.new ≡ L.files library.old }
+    ensures short { IfOk result AreShort }
 {
     let bytes = bytes(alloc, library, file)?;
     match read_notebook(alloc, &bytes) {

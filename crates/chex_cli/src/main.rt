@@ -1,14 +1,17 @@
 //! The program `chex`: its real edges, and the one call that does the work.
 #![tactic(auto)]
 
+mod bad_cell;
+mod cell;
 mod chex;
 mod command;
 mod decide;
 mod decision;
 mod files;
+mod known;
 mod refusal;
+mod runs;
 mod texts;
-mod thin;
 mod version;
 
 use chex::chex;

@@ -1,12 +1,12 @@
 //! The text that versions print.
 ghost use Rattle.std.specs.Prelude.{◌≡◌, [], IfOk, option_map, string_bytes};
-ghost use Rattle.chex_cli.specs.Thin as spec;
+ghost use Rattle.chex_cli.specs.Texts as spec;
 
-use crate::thin::Runnable;
+use crate::runs::Runnable;
 use chex_base::{NoMemory, Text};
 use chex_report::header;
 use star_eval::{End, Failure, Globals, RunFault, run_cell};
-use star_syntax::Module;
+use star_syntax::Cell;
 use std::alloc::Global;
 
 /// How many steps a cell may take.
@@ -32,7 +32,7 @@ fn run_text(alloc: Global, headed: bool, run: &Runnable) -> Result<Option<String
     ensures { IfOk result (λ text. option_map string_bytes text ≡ spec.run_text headed run.now) }
 {
     let mut text = front(alloc, headed, &run.name)?;
-    match version_text(alloc, run.modules.as_slice())? {
+    match version_text(alloc, run.cells.as_slice())? {
         None => Ok(None),
         Some(more) => {
             text.push_str(more.as_str())?;
@@ -54,13 +54,13 @@ fn front(alloc: Global, headed: bool, name: &Text) -> Result<String, NoMemory>
 }
 
 /// The text of cells, run one after the other from no globals, up to the first that fails.
-fn version_text(alloc: Global, modules: &[Module]) -> Result<Option<String>, NoMemory>
-    ensures { IfOk result (λ text. option_map string_bytes text ≡ spec.version_text 1 [] modules.now) }
+fn version_text(alloc: Global, cells: &[Cell]) -> Result<Option<String>, NoMemory>
+    ensures { IfOk result (λ text. option_map string_bytes text ≡ spec.version_text 1 [] cells.now) }
 {
     let mut globals = Globals::new(alloc);
     let mut text = String::new(alloc);
-    for (place, module) in modules.iter().enumerate() {
-        let ran = match run_cell(alloc, &mut globals, module, MOST_STEPS) {
+    for (place, cell) in cells.iter().enumerate() {
+        let ran = match run_cell(alloc, &mut globals, cell.module(), MOST_STEPS) {
             Ok(ran) => ran,
             Err(RunFault::Undefined) => return Ok(None),
             Err(RunFault::NoMemory) => return Err(NoMemory),
@@ -86,7 +86,7 @@ fn failed_text(alloc: Global, cell: usize, failure: Failure, line: u32) -> Resul
 }
 
 /// How a failure is named.
-#[tactic(auto, unfolding(crate::specs::Thin::failure_name))]
+#[tactic(auto, unfolding(crate::specs::Texts::failure_name))]
 fn failure_name(failure: Failure) -> &'static str
     ensures { result.now ≡ spec.failure_name failure }
 {

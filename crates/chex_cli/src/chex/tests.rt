@@ -3,7 +3,7 @@ use super::*;
 use chex_base::{Calls, Files, MemoryLibrary, MemorySink, Text};
 use star_eval::{End, Failure, Globals, run_cell};
 use star_lexer::lex;
-use star_parser::parse_thin;
+use star_parser::parse;
 use std::test::Fail;
 
 /// A notebook as Jupyter writes one, on one line.
@@ -76,7 +76,6 @@ fn notebooks_print_their_text(rt: HostRuntime) -> Result<(), Fail> {
     let spellings: &[&str] = &["print(1) # c\\n\\nprint(0x10)\\r\\n"];
     let display: &[&str] = &["print(1)", "x = [1]"];
     let quotient: &[&str] = &["x = 1 // 0"];
-    let open: &[&str] = &["print(1", "y = 1"];
     for (sources, status, written) in [
         (none, Status::Done, ""),
         (sum, Status::Done, "3\n"),
@@ -99,7 +98,6 @@ fn notebooks_print_their_text(rt: HostRuntime) -> Result<(), Fail> {
         (spellings, Status::Done, "1\n16\n"),
         (display, Status::NotBuilt, "error: not built\n"),
         (quotient, Status::NotBuilt, "error: not built\n"),
-        (open, Status::NotBuilt, "error: not built\n"),
     ] {
         let bytes = notebook(alloc, sources)?;
         let ended = run(alloc, "solo a.ipynb", &[("a.ipynb", bytes.as_str())], 0, 0)?;
@@ -232,6 +230,96 @@ fn versions_print_their_texts(rt: HostRuntime) -> Result<(), Fail> {
         ("alone both", 4, Status::Done, "== p ==\n3\n== q ==\n2\n"),
     ] {
         let ended = run(alloc, line, files, read_fails, 0)?;
+        assert_eq!(rt; ended.written.as_slice(), written.as_bytes());
+        assert_eq!(rt; ended.status, status);
+    }
+    Ok(())
+}
+
+#[test]
+fn cells_are_refused(rt: HostRuntime) -> Result<(), Fail> {
+    let alloc = rt.alloc();
+    let chain: &[&str] = &["a < b < c"];
+    let fraction: &[&str] = &["x = 1.5"];
+    let tab: &[&str] = &["if x:\\n\\ty = 1"];
+    let variable: &[&str] = &["y = input(n)"];
+    let wide: &[&str] = &["x = 170141183460469231731687303715884105728"];
+    let open_text: &[&str] = &["s = \\\"a"];
+    let nested: &[&str] = &["def f():\\n    def g():\\n        pass"];
+    let called: &[&str] = &["f(x) = 1"];
+    let open: &[&str] = &["print(1", "y = 1"];
+    let second: &[&str] = &["x = 1", "x = [1]\\nreturn x", "a < b < c"];
+    for (sources, written) in [
+        (chain, "error: solo cell 1 line 1: Unexpected\n"),
+        (fraction, "error: solo cell 1 line 1: Unexpected\n"),
+        (tab, "error: solo cell 1 line 2: BadIndent\n"),
+        (variable, "error: solo cell 1 line 1: InputNotLiteral\n"),
+        (wide, "error: solo cell 1 line 1: WideNumber\n"),
+        (open_text, "error: solo cell 1 line 1: OpenString\n"),
+        (nested, "error: solo cell 1 line 2: NestedDef\n"),
+        (called, "error: solo cell 1 line 1: Unexpected\n"),
+        (open, "error: solo cell 1 line 1: Unexpected\n"),
+        // A cell that does not run yet is passed over for the first that is refused.
+        (second, "error: solo cell 2 line 2: MisplacedReturn\n"),
+    ] {
+        let bytes = notebook(alloc, sources)?;
+        let ended = run(alloc, "solo a.ipynb", &[("a.ipynb", bytes.as_str())], 0, 0)?;
+        assert_eq!(rt; ended.written.as_slice(), written.as_bytes());
+        assert_eq!(rt; ended.status, Status::BadCell);
+    }
+    Ok(())
+}
+
+#[test]
+fn first_refused_cells_are_told(rt: HostRuntime) -> Result<(), Fail> {
+    let alloc = rt.alloc();
+    let good = notebook(alloc, &["print(1)"])?;
+    let display = notebook(alloc, &["x = [1]"])?;
+    let later = notebook(alloc, &["x = 1", "x = 2\\na < b < c"])?;
+    let escape = notebook(alloc, &["\\n\\ns = '\\\\q'"])?;
+    let files: &[(&str, &str)] = &[
+        ("g", good.as_str()),
+        ("d", display.as_str()),
+        ("l", later.as_str()),
+        ("e", escape.as_str()),
+        ("old", r#"{"cells":[],"nbformat":3}"#),
+        (
+            "second",
+            r#"{"versions":[{"name":"a","notebook":"g"},{"name":"b","notebook":"l"}]}"#,
+        ),
+        (
+            "first",
+            r#"{"versions":[{"name":"a","notebook":"e"},{"name":"b","notebook":"l"}]}"#,
+        ),
+        (
+            "built",
+            r#"{"versions":[{"name":"a","notebook":"d"},{"name":"b","notebook":"l"}]}"#,
+        ),
+        (
+            "files",
+            r#"{"versions":[{"name":"a","notebook":"e"},{"name":"b","notebook":"old"}]}"#,
+        ),
+    ];
+    for (line, status, written) in [
+        (
+            "alone second",
+            Status::BadCell,
+            "error: b cell 2 line 2: Unexpected\n",
+        ),
+        (
+            "alone first",
+            Status::BadCell,
+            "error: a cell 1 line 3: BadEscape\n",
+        ),
+        (
+            "alone built",
+            Status::BadCell,
+            "error: b cell 2 line 2: Unexpected\n",
+        ),
+        // All files are looked at before any cell is.
+        ("alone files", Status::BadFile, "error: old: format 3\n"),
+    ] {
+        let ended = run(alloc, line, files, 0, 0)?;
         assert_eq!(rt; ended.written.as_slice(), written.as_bytes());
         assert_eq!(rt; ended.status, status);
     }
@@ -518,8 +606,9 @@ fn steps_are_counted(rt: HostRuntime) -> Result<(), Fail> {
             Ok(tokens) => tokens,
             Err(_) => return Err(Fail::from(std::alloc::AllocError)),
         };
-        let Some(module) = parse_thin(alloc, tokens.as_slice())? else {
-            return Err(Fail::from(std::alloc::AllocError));
+        let module = match parse(alloc, tokens.as_slice()) {
+            Ok(module) => module,
+            Err(_) => return Err(Fail::from(std::alloc::AllocError)),
         };
         let mut globals = Globals::new(alloc);
         match run_cell(alloc, &mut globals, &module, allowance) {

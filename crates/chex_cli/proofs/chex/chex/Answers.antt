@@ -1,5 +1,5 @@
 use Rattle.std.proofs.Common.{map, string_bytes, refl, inl, inr}
-use Rattle.chex_cli.proofs.EndLemmas.{due_write_fault, all_some, told_refused, told_not_built, told_done}
+use Rattle.chex_cli.proofs.EndLemmas.{due_write_fault, all_some, told_refused, told_bad_cell, told_not_built, told_done}
 use Rattle.chex_cli.proofs.chex.chex.Goals as goal
 
 pub returns-in-Err-clause-wrote : goal.returns-in-Err-clause-wrote
@@ -12,10 +12,13 @@ pub returns-in-Err-clause-refused : goal.returns-in-Err-clause-refused
 returns-in-Err-clause-refused g c = all_some (g.L.Library.files c.args.library.now) _ (λ file r h. inr (inl refl))
 
 pub returns-in-Err-clause-not_built : goal.returns-in-Err-clause-not_built
-returns-in-Err-clause-not_built g c = all_some (g.L.Library.files c.args.library.now) _ (λ file job h not_thin. inr (inl refl))
+returns-in-Err-clause-not_built g c = all_some (g.L.Library.files c.args.library.now) _ (λ file job runs h are not_thin. inr (inl refl))
+
+pub returns-in-Err-clause-bad_cell : goal.returns-in-Err-clause-bad_cell
+returns-in-Err-clause-bad_cell g c = all_some (g.L.Library.files c.args.library.now) _ (λ file job bad h first. inr (inl refl))
 
 pub returns-in-Err-clause-done : goal.returns-in-Err-clause-done
-returns-in-Err-clause-done g c = all_some (g.L.Library.files c.args.library.now) _ (λ file job runs h thin. inr (inl refl))
+returns-in-Err-clause-done g c = all_some (g.L.Library.files c.args.library.now) _ (λ file job runs h are thin. inr (inl refl))
 
 pub returns-in-Ok-write-clause-wrote : goal.returns-in-Ok-write-clause-wrote
 returns-in-Ok-write-clause-wrote g c =
@@ -31,6 +34,10 @@ returns-in-Ok-write-clause-usage g c = λ none. inl (c.in-Ok.ensures.usage none)
 pub returns-in-Ok-write-clause-refused : goal.returns-in-Ok-write-clause-refused
 returns-in-Ok-write-clause-refused g c =
     told_refused (g.L.Library.files c.args.library.now) (map string_bytes c.args.words.now) c.in-Ok.decision.status (string_bytes c.in-Ok.decision.text) c.in-Ok.ensures.due
+
+pub returns-in-Ok-write-clause-bad_cell : goal.returns-in-Ok-write-clause-bad_cell
+returns-in-Ok-write-clause-bad_cell g c =
+    told_bad_cell (g.L.Library.files c.args.library.now) (map string_bytes c.args.words.now) c.in-Ok.decision.status (string_bytes c.in-Ok.decision.text) c.in-Ok.ensures.due
 
 pub returns-in-Ok-write-clause-not_built : goal.returns-in-Ok-write-clause-not_built
 returns-in-Ok-write-clause-not_built g c =

@@ -14,9 +14,9 @@ returns-in_err-bytes-clause-due g c =
 pub returns-in-Ok-clause-due : goal.returns-in-Ok-clause-due
 unfolding notebook_at
 returns-in-Ok-clause-due g c =
-    file_read (g.L.Library.files c.args.library.now) c.args.file.now c.deref.result.now notebook_of c.in-Ok.sources (rw c.deref.ensures.value c.in_ok-bytes.ensures.found) c.in-Ok.ensures
+    file_read (g.L.Library.files c.args.library.now) c.args.file.now c.deref.result.now notebook_of c.in-Ok.sources (rw c.deref.ensures.value c.in_ok-bytes.ensures.found) c.in-Ok.ensures.read
 
 pub returns-clause-due : goal.returns-clause-due
 unfolding notebook_at
 returns-clause-due g c =
-    file_refused (g.L.Library.files c.args.library.now) c.args.file.now c.deref.result.now notebook_of c.in-Err.fault c.bad_file.result (rw c.deref.ensures.value c.in_ok-bytes.ensures.found) c.in-Err.ensures c.bad_file.ensures
+    file_refused (g.L.Library.files c.args.library.now) c.args.file.now c.deref.result.now notebook_of c.in-Err.fault c.bad_file.result (rw c.deref.ensures.value c.in_ok-bytes.ensures.found) c.in-Err.ensures.read c.bad_file.ensures

@@ -2,6 +2,7 @@ use Rattle.std.proofs.Common.{arith, ◌∙◌, refl}
 use Rattle.std.proofs.lemmas.Result.{err_from_is_err_and}
 use Rattle.chex_cli.specs.Due.{versions_at}
 use Rattle.chex_cli.proofs.ReadLemmas.{onward_first, onward_more, onward_refused, onward_last, counted_later, handed_on}
+use Rattle.chex_cli.proofs.CellLemmas.{one_more_short}
 use Rattle.chex_cli.proofs.files.versions.Goals as goal
 
 pub loop-entry-init : goal.loop-entry-init
@@ -10,6 +11,7 @@ loop-entry-init g c = record {
   files = refl;
   absences = omega arith;
   faults = omega arith;
+  short = rw c.new-versions.ensures tt;
 }
 
 pub returns-in_err-version-clause-due : goal.returns-in_err-version-clause-due
@@ -27,6 +29,7 @@ loop-entry-preserved g c = record {
   files = c.in_ok-version.ensures.files ∙ c.loop-entry.invariant.files;
   absences = omega (arith, c.in_ok-version.ensures.later.0, c.loop-entry.invariant.absences);
   faults = omega (arith, c.in_ok-version.ensures.later.1, c.loop-entry.invariant.faults);
+  short = rw c.in_ok-add.ensures.ok (one_more_short c.loop-entry.versions c.in_ok-version.version c.loop-entry.invariant.short c.in_ok-version.ensures.short);
 }
 
 pub returns-clause-due : goal.returns-clause-due

@@ -3,6 +3,7 @@ use Rattle.std.specs.Prelude.{IfSome, Result}
 use Rattle.chex_cli.specs.declared.version.Version.{Version}
 use Rattle.chex_cli.specs.declared.refusal.Refusal.{Refusal}
 use Rattle.chex_cli.specs.Due.{versions_at}
+use Rattle.chex_cli.specs.Jobs.{AreAllShort}
 use Rattle.chex_cli.specs.Reads.{Answers}
 use Rattle.chex_cli.proofs.ReadLemmas.{prepend}
 use Rattle.chex_cli.proofs.files.versions.Given as goal
@@ -16,4 +17,5 @@ invariant-loop-entry g l =
       files : library.files l.library ≡ library.files l.fn.library;
       absences : library.absences l.fn.library ≤ library.absences l.library;
       faults : library.faults l.fn.library ≤ library.faults l.library;
+      short : AreAllShort l.versions;
     }

@@ -1,12 +1,8 @@
--- The versions that run, and the text that they print.
-use Rattle.std.specs.Prelude.{◌≡◌, ◌≤◌, ◌+◌, ℕ, Bool, true, false, List, [], ◌∷◌, ◌++◌, length, Option, Some, option_map, option_and_then, codes}
-use Rattle.std.specs.List.{AllZip}
+-- The text that versions print.
+use Rattle.std.specs.Prelude.{◌+◌, ℕ, Bool, true, false, List, [], ◌∷◌, ◌++◌, Option, Some, option_map, option_and_then, codes}
 use Rattle.std.specs.Fmt.{decimal}
 use Rattle.std.specs.Str.{encode_utf8_all}
-use Rattle.star_syntax.specs.declared.statement.Module.{Module}
-use Rattle.star_syntax.specs.declared.token.Spanned.{Spanned}
-use Rattle.star_syntax.specs.Thin.{IsThinCell}
-use Rattle.star_lexer.specs.Tokens.{Tokens}
+use Rattle.star_syntax.specs.CellParts.{CellParts}
 use Rattle.star_eval.specs.declared.cell.End.{End}
 use Rattle.star_eval.specs.declared.cell.End.TheVariants as end
 use Rattle.star_eval.specs.declared.failure.Failure.{Failure}
@@ -14,30 +10,7 @@ use Rattle.star_eval.specs.declared.failure.Failure.TheVariants as failure
 use Rattle.star_eval.specs.State.{State}
 use Rattle.star_eval.specs.Meaning.{run_cell}
 use Rattle.chex_report.specs.Headers.{header_of}
-use Rattle.chex_cli.specs.declared.version.Version.{Version}
-use Rattle.chex_cli.specs.declared.version.Job.{Job}
-use Rattle.chex_cli.specs.declared.thin.Runnable.{Runnable}
-
--- the source's tokens spell a thin cell, whose tree this is
-pub record IsThinSource (source : List ℕ) (module' : Module) : Type 0 where
-  pub list : List Spanned
-  pub tokens : Tokens source list
-  pub cell : IsThinCell list module'
-
--- the source has at most 65,536 bytes and is thin
-abbrev pub IsShortThin : List ℕ → Module → Type 0
-IsShortThin source module' = (length (encode_utf8_all source) ≤ 65536) × IsThinSource source module'
-
--- the trees are those of the version's cells, in order, all of which are thin
-abbrev pub IsRunnable : Version → Runnable → Type 0
-IsRunnable version run = (run.name ≡ version.name) × AllZip IsShortThin version.sources run.modules
-
-abbrev pub AreRunnable : List Version → List Runnable → Type 0
-AreRunnable = AllZip IsRunnable
-
--- some cell is not thin
-abbrev pub IsNotThin : Job → Type 0
-IsNotThin job = (runs : List Runnable) → AreRunnable job.versions runs → ⊥
+use Rattle.chex_cli.specs.declared.runs.Runnable.{Runnable}
 
 -- how a failure is named in the text of a version
 unfoldable pub failure_name : Failure → List ℕ
@@ -71,9 +44,9 @@ text_by cell out end.Done rest = option_map (λ more. encode_utf8_all out ++ mor
 text_by cell out (end.Failed why line) rest = Some (encode_utf8_all out ++ failed_text cell why line)
 
 -- the text of cells that run one after the other, the first of which has this number, from these globals; each sees the globals that the one before it left
-unfoldable pub version_text : ℕ → State → List Module → Option (List ℕ)
+unfoldable pub version_text : ℕ → State → List CellParts → Option (List ℕ)
 version_text cell globals [] = Some []
-version_text cell globals (m ∷ ms) = option_and_then (λ p. text_by cell p.0.out p.0.end (version_text (cell + 1) p.1 ms)) (run_cell m 1000000 globals)
+version_text cell globals (x ∷ xs) = option_and_then (λ p. text_by cell p.0.out p.0.end (version_text (cell + 1) p.1 xs)) (run_cell x.module 1000000 globals)
 
 -- the line before a version's text, where versions have one
 abbrev pub front : Bool → List ℕ → List ℕ
@@ -82,7 +55,7 @@ front false name = []
 
 -- a version alone, from no globals
 abbrev pub run_text : Bool → Runnable → Option (List ℕ)
-run_text headed run = option_map (λ text. front headed run.name ++ text) (version_text 1 [] run.modules)
+run_text headed run = option_map (λ text. front headed run.name ++ text) (version_text 1 [] run.cells)
 
 -- the versions in order
 unfoldable pub job_text : Bool → List Runnable → Option (List ℕ)
