@@ -1,7 +1,8 @@
-pub mod ThinReading
 pub mod Reading
 pub mod Tables
 pub mod Readers
 pub mod Ends
 pub mod Starts
 pub mod Verdict
+pub mod Lines
+pub mod Trees

@@ -1,14 +1,13 @@
 //! Reads tokens into trees.
 //!
-//! [`parse_thin`] reads thin cells, the ones that run today: lines `NAME = SUM` and `print(SUM)`. The
-//! cursor, and the readers of all expressions in `specs/Readers.antt`, are the ground for the parser of
-//! the whole grammar, which does not stand yet.
+//! The rules of the grammar, one function each, give what the reader of their name in `specs/` gives;
+//! a cursor goes over the tokens once, and a rule that refuses leaves it at the refused token.
 #![tactic(auto)]
 
 pub mod cursor;
 pub mod fault;
+pub mod grammar;
 pub mod level;
-pub mod thin;
-pub mod thin_line;
+pub mod target;
 
-pub use thin::parse_thin;
+pub use fault::ParseFault;
