@@ -101,11 +101,6 @@ Matches [] [] = Unit {0}
 Matches (s ∷ c) (k ∷ ks) = (s.token ≡ k.0) × OnLine k.1 s.line × Matches c ks
 Matches _ _ = ⊥
 
--- the line of the first token
-abbrev pub first_line : List Spanned → ℕ
-first_line [] = 0
-first_line (s ∷ c) = s.line
-
 -- ---- trees without their lines
 
 abbrev pub unlined_small : Small → Small
