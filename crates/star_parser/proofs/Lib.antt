@@ -1,9 +1,12 @@
-pub mod ThinSteps
-pub mod ThinLaws
-pub mod ThinLoop
-pub mod Names
 pub mod Exact
 pub mod Rules
 pub mod Steps
 pub mod Turns
 pub mod First
+pub mod Words
+pub mod Closing
+pub mod Chains
+pub mod Prefixes
+pub mod Operators
+pub mod Arguments
+pub mod Suffixes
