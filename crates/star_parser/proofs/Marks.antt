@@ -1,6 +1,6 @@
 -- Tokens with the lines that are claimed for them.
 use Rattle.std.proofs.Common.{◌≡◌, ◌≢◌, ◌∙◌, ℕ, Bool, List, [], ◌∷◌, ◌++◌, map, Option, Some, None, refl, sym, ap, subst, append_assoc}
-use Rattle.std.specs.List.{flat_map}
+use Rattle.std.specs.List.{flat_map, AllByRecursion}
 use Rattle.std.proofs.lemmas.List.{append-nil, map-append}
 use Rattle.std.proofs.lemmas.List.Folds.{flat_map-map}
 use Rattle.star_syntax.specs.declared.token.Token.{Token}
@@ -24,6 +24,7 @@ use Rattle.star_syntax.specs.SpellingOfParts.{body_spelling, case_spelling, othe
 use Rattle.star_syntax.proofs.StatementLemmas.{statement_spells}
 use Rattle.star_parser.specs.Reading.{Input, kinds, next}
 use Rattle.star_parser.specs.Lines.{Claim, Marks, free, plain, first_marked, small_marks, smalls_marks, line_marks, block_marks, branch_header, branch_marks, else_header, else_marks, for_header, def_header, statement_layer_marks, statement_marks, module_marks, OnLine, Matches}
+use Rattle.star_parser.specs.StatementTables.{first_line}
 use Rattle.star_parser.proofs.StatementParts.{EachBlock, EachBranch, EachElse, EachPart, block_in, branches_in, else_in, induct_statement}
 
 -- ---- the tokens of a statement, over the statements in its blocks
@@ -139,5 +140,127 @@ tokens_line line =
 Told : Statement → Type 0
 Told x = tokens_of (statement_marks x) ≡ statement_spelling x
 
-tokens_list : (xs : List Statement) → AllOf xs → tokens_of (flat_map statement_marks xs) ≡ flat_map statement_spelling xs
-tokens_list = ?
+tokens_list : (xs : List Statement) → AllByRecursion Told xs → tokens_of (flat_map statement_marks xs) ≡ flat_map statement_spelling xs
+unfolding Told tokens_of
+tokens_list [] each = refl
+tokens_list (x ∷ xs) each =
+    tokens_append (statement_marks x) (flat_map statement_marks xs) ∙ ap (λ l. l ++ tokens_of (flat_map statement_marks xs)) each.0
+    ∙ ap (λ l. statement_spelling x ++ l) (tokens_list xs each.1)
+
+tokens_body : (body : Block Statement) → EachBlock Told body → tokens_of (body_marks body) ≡ body_spelling body
+tokens_body (Inline line) each = tokens_line line
+tokens_body (Indented xs) each =
+    tokens_front (t.Newline ∷ t.Indent ∷ []) (flat_map statement_marks xs ++ plain (t.Dedent ∷ [])) (flat_map statement_spelling xs ++ t.Dedent ∷ [])
+    (tokens_append (flat_map statement_marks xs) (plain (t.Dedent ∷ [])) ∙ ap (λ l. l ++ tokens_of (plain (t.Dedent ∷ []))) (tokens_list xs each)
+    ∙ ap (λ l. flat_map statement_spelling xs ++ l) (tokens_plain (t.Dedent ∷ [])))
+
+-- a header with its colon at the end, and what follows
+header_joined : (a : Tokens) (x : Marks) (l : Tokens) → tokens_of x ≡ l → tokens_of (plain (a ++ t.Mark m.Colon ∷ []) ++ x) ≡ a ++ t.Mark m.Colon ∷ l
+header_joined a x l is = tokens_front (a ++ t.Mark m.Colon ∷ []) x l is ∙ append_assoc a (t.Mark m.Colon ∷ []) l
+
+tokens_case : (word : Keyword) (branch : Branch Statement) → EachBranch Told branch → tokens_of (case_marks word branch) ≡ case_spelling word branch
+tokens_case word branch each = header_joined (t.Word word ∷ expr_spelling branch.condition) (body_marks branch.body) (body_spelling branch.body) (tokens_body branch.body each)
+
+tokens_cases : (xs : List (Branch Statement)) → AllByRecursion (EachBranch Told) xs → tokens_of (flat_map (case_marks w.Elif) xs) ≡ flat_map (case_spelling w.Elif) xs
+unfolding tokens_of
+tokens_cases [] each = refl
+tokens_cases (x ∷ xs) each =
+    tokens_append (case_marks w.Elif x) (flat_map (case_marks w.Elif) xs) ∙ ap (λ l. l ++ tokens_of (flat_map (case_marks w.Elif) xs)) (tokens_case w.Elif x each.0)
+    ∙ ap (λ l. case_spelling w.Elif x ++ l) (tokens_cases xs each.1)
+
+tokens_else : (other : Option (Block Statement)) → EachElse Told other → tokens_of (otherwise_marks other) ≡ otherwise_spelling other
+unfolding tokens_of
+tokens_else None each = refl
+tokens_else (Some body) each = tokens_front else_header (body_marks body) (body_spelling body) (tokens_body body each)
+
+for_joined : (a b c : Tokens) → (t.Word w.For ∷ (a ++ t.Word w.In ∷ (b ++ t.Mark m.Colon ∷ []))) ++ c ≡ t.Word w.For ∷ (a ++ t.Word w.In ∷ (b ++ t.Mark m.Colon ∷ c))
+for_joined a b c = simp append_assoc
+
+def_joined : (name : List ℕ) (a b c : Tokens) → (t.Word w.Def ∷ t.Name name ∷ t.Mark m.OpenRound ∷ (a ++ (b ++ t.Mark m.CloseRound ∷ t.Mark m.Colon ∷ []))) ++ c
+    ≡ t.Word w.Def ∷ t.Name name ∷ t.Mark m.OpenRound ∷ (a ++ (b ++ t.Mark m.CloseRound ∷ t.Mark m.Colon ∷ c))
+def_joined name a b c = simp append_assoc
+
+tokens_parts : (d : Statement-F Statement) → EachPart Told d → tokens_of (parts_marks d) ≡ statement_parts_spelling d
+tokens_parts (Statement-F.Line line) each = tokens_line line
+tokens_parts (Statement-F.If at first more other) each =
+    tokens_first at (if_marks first more other) ∙ tokens_append (case_marks w.If first) (flat_map (case_marks w.Elif) more ++ otherwise_marks other)
+    ∙ ap (λ l. l ++ tokens_of (flat_map (case_marks w.Elif) more ++ otherwise_marks other)) (tokens_case w.If first each.0)
+    ∙ ap (λ l. case_spelling w.If first ++ l) (tokens_append (flat_map (case_marks w.Elif) more) (otherwise_marks other))
+    ∙ ap (λ l. case_spelling w.If first ++ (l ++ tokens_of (otherwise_marks other))) (tokens_cases more each.1)
+    ∙ ap (λ l. case_spelling w.If first ++ (flat_map (case_spelling w.Elif) more ++ l)) (tokens_else other each.2)
+tokens_parts (Statement-F.For at targets over body) each =
+    tokens_first at (plain (for_header targets over) ++ body_marks body) ∙ tokens_front (for_header targets over) (body_marks body) (body_spelling body) (tokens_body body each)
+    ∙ for_joined (tests_spelling targets) (tests_spelling over) (body_spelling body)
+tokens_parts (Statement-F.Def at def) each =
+    tokens_first at (plain (def_header def) ++ body_marks def.body) ∙ tokens_front (def_header def) (body_marks def.body) (body_spelling def.body) (tokens_body def.body each)
+    ∙ def_joined def.name (parameters_spelling def.required def.defaults) (if_written def.comma m.Comma) (body_spelling def.body)
+
+pub tokens_statement : (x : Statement) → tokens_of (statement_marks x) ≡ statement_spelling x
+unfolding Told
+tokens_statement = induct_statement Told (λ d each. ap tokens_of (marks_of d) ∙ tokens_parts d each ∙ sym (statement_spells d))
+
+pub tokens_statements : (xs : List Statement) → tokens_of (flat_map statement_marks xs) ≡ flat_map statement_spelling xs
+unfolding Told
+tokens_statements xs = tokens_list xs (all_told xs)
+  where
+    all_told : (xs : List Statement) → AllByRecursion Told xs
+    all_told [] = tt
+    all_told (x ∷ xs) = (tokens_statement x, all_told xs)
+
+pub tokens_module : (cell : Module) → tokens_of (module_marks cell) ≡ spelling cell
+unfolding module_marks spelling
+tokens_module cell =
+    tokens_append (flat_map statement_marks cell.statements) (plain (t.End ∷ [])) ∙ ap (λ l. l ++ tokens_of (plain (t.End ∷ []))) (tokens_statements cell.statements)
+    ∙ ap (λ l. flat_map statement_spelling cell.statements ++ l) (tokens_plain (t.End ∷ []))
+
+-- ---- what matches
+
+pub matched_kinds : (c : Input) (x : Marks) → Matches c x → kinds c ≡ tokens_of x
+unfolding tokens_of
+matched_kinds [] [] h = refl
+matched_kinds [] (k ∷ x) h = absurd h
+matched_kinds (s ∷ c) [] h = absurd h
+matched_kinds (s ∷ c) (k ∷ x) h = ap (λ v. v ∷ kinds c) h.0 ∙ ap (λ v. k.0 ∷ v) (matched_kinds c x h.2)
+
+pub matched_plain : (c : Input) (ks : Tokens) → Matches c (plain ks) → kinds c ≡ ks
+matched_plain c ks h = matched_kinds c (plain ks) h ∙ tokens_plain ks
+
+pub plain_matched : (c : Input) (ks : Tokens) → kinds c ≡ ks → Matches c (plain ks)
+plain_matched [] [] h = tt
+plain_matched [] (k ∷ ks) h = absurd cc
+plain_matched (s ∷ c) [] h = absurd cc
+plain_matched (s ∷ c) (k ∷ ks) h = let h' : s.token ∷ kinds c ≡ k ∷ ks = h in (cc, tt, plain_matched c ks cc)
+
+pub matched_split : (c : Input) (x y : Marks) → Matches c (x ++ y) → (c1 : Input) × (c2 : Input) × (c ≡ c1 ++ c2) × Matches c1 x × Matches c2 y
+matched_split c [] y h = ([], c, refl, tt, h)
+matched_split [] (k ∷ x) y h = absurd h
+matched_split (s ∷ c) (k ∷ x) y h =
+    let (c1, c2, e, m1, m2) = matched_split c x y h.2 in
+    (s ∷ c1, c2, ap (λ v. s ∷ v) e, (h.0, h.1, m1), m2)
+
+pub matched_both : (a b : Input) (x y : Marks) → Matches a x → Matches b y → Matches (a ++ b) (x ++ y)
+matched_both [] b [] y h g = g
+matched_both [] b (k ∷ x) y h g = absurd h
+matched_both (s ∷ a) b [] y h g = absurd h
+matched_both (s ∷ a) b (k ∷ x) y h g = (h.0, h.1, matched_both a b x y h.2 g)
+
+-- one list matched in two parts
+pub matched_joined : (c a b : Input) (x y : Marks) → c ≡ a ++ b → Matches a x → Matches b y → Matches c (x ++ y)
+matched_joined c a b x y split h g = subst (λ v. Matches v (x ++ y)) (sym split) (matched_both a b x y h g)
+
+-- a first token, and what follows
+pub matched_cons : (c : Input) (k : Token) (x : Marks) → Matches c (free k ∷ x) → (s : Spanned) × (c' : Input) × (c ≡ s ∷ c') × (s.token ≡ k) × Matches c' x
+matched_cons [] k x h = absurd h
+matched_cons (s ∷ c) k x h = (s, c, refl, h.0, h.2)
+
+-- a first token with its line, and what follows
+pub matched_line : (c : Input) (at : ℕ) (k : Token) (x : Marks) → Matches c ((k, Some at) ∷ x) → (s : Spanned) × (c' : Input) × (c ≡ s ∷ c') × (s.token ≡ k) × (at ≡ s.line) × Matches c' x
+matched_line [] at k x h = absurd h
+matched_line (s ∷ c) at k x h = (s, c, refl, h.0, h.1, h.2)
+
+-- the line of the first token may be claimed
+pub first_matched : (c : Input) (x : Marks) → Matches c x → Matches c (first_marked (first_line c) x)
+first_matched [] [] h = tt
+first_matched [] (k ∷ x) h = absurd h
+first_matched (s ∷ c) [] h = absurd h
+first_matched (s ∷ c) (k ∷ x) h = (h.0, refl, h.2)
