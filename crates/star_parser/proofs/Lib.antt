@@ -1,7 +1,3 @@
-pub mod ThinSteps
-pub mod ThinLaws
-pub mod ThinLoop
-pub mod Names
 pub mod Exact
 pub mod Rules
 pub mod Steps

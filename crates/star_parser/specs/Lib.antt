@@ -1,4 +1,3 @@
-pub mod ThinReading
 pub mod Reading
 pub mod Tables
 pub mod Readers
