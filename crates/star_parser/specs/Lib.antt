@@ -4,3 +4,5 @@ pub mod Readers
 pub mod Ends
 pub mod Starts
 pub mod Verdict
+pub mod StatementTables
+pub mod StatementReaders
