@@ -6,3 +6,5 @@ pub mod Starts
 pub mod Verdict
 pub mod StatementTables
 pub mod StatementReaders
+pub mod Lines
+pub mod Trees
