@@ -3,3 +3,10 @@ pub mod Rules
 pub mod Steps
 pub mod Turns
 pub mod First
+pub mod Words
+pub mod Closing
+pub mod Chains
+pub mod Prefixes
+pub mod Operators
+pub mod Arguments
+pub mod Suffixes
