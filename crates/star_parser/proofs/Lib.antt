@@ -10,3 +10,5 @@ pub mod Prefixes
 pub mod Operators
 pub mod Arguments
 pub mod Suffixes
+pub mod LayoutSteps
+pub mod LineMatches

@@ -226,7 +226,7 @@ module _ (expr : Level → Reader Expr) where
       given ← parameters
       expect m.Colon
       body ← block
-      pure (s.Def at (record { name = name; required = given.0; defaults = given.1.0; comma = given.1.1; body = body }))
+      pure (s.Def at (record { name = name; required = given.0; defaults = given.1; comma = given.2; body = body }))
 
     -- a statement, over a reader of the statements in its blocks
     unfoldable pub one : Reader Statement
