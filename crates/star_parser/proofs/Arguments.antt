@@ -32,13 +32,13 @@ use Rattle.star_parser.proofs.Rules.{IsExpr, kinds_split, kinds_cons, kinds_none
 use Rattle.star_parser.proofs.First.{first_of}
 use Rattle.star_parser.proofs.Chains.{Below}
 
-abbrev close : Token
+abbrev pub close : Token
 close = t.Mark m.CloseRound
 
-abbrev assign : Token
+abbrev pub assign : Token
 assign = t.Mark m.Assign
 
-abbrev named_as : List ℕ → Expr → Named Expr
+abbrev pub named_as : List ℕ → Expr → Named Expr
 named_as name value = record { name = name; value = value }
 
 -- a comma at the end, and the bracket
@@ -46,10 +46,10 @@ abbrev pub ending : Bool → Tokens
 ending written = if_written written m.Comma ++ close ∷ []
 
 -- phrases with a comma before each
-abbrev commas : List Tokens → Tokens
+abbrev pub commas : List Tokens → Tokens
 commas = flat_map (λ y. comma ∷ y)
 
-commas_of : (phrases : List Tokens) → phrases ≢ [] → commas phrases ≡ comma ∷ listed phrases
+pub commas_of : (phrases : List Tokens) → phrases ≢ [] → commas phrases ≡ comma ∷ listed phrases
 commas_of [] some = absurd (some refl)
 commas_of (x ∷ more) some = refl
 
@@ -80,10 +80,10 @@ name_spelt x name c is r = r.spelt ∙ ap expr_spelling is ∙ spells-Name name
 
 -- ---- named arguments
 
-abbrev NamedLevelled : List (Named Expr) → Type 0
+abbrev pub NamedLevelled : List (Named Expr) → Type 0
 NamedLevelled = AllByRecursion (λ named. IsLevelled named.value)
 
-abbrev phrases : List (Named Expr) → List Tokens
+abbrev pub phrases : List (Named Expr) → List Tokens
 phrases = map default_spelling
 
 -- after a name and `=`: the value, and more named arguments up to the bracket
@@ -181,7 +181,7 @@ named_back : (positional : List Expr) (found : List (Named Expr)) (name : List �
     → AreNamed positional found name all c → NamedWhole positional found name all c
 named_back positional found name all c h = named_by positional found name all c h.value h.others h.written h.whole h.levelled h.others_levelled h.spelt
 
-some_named : (positional : List Expr) (found : List (Named Expr)) (name : List ℕ) → (all : Arguments Expr) × (c : Input) × AreNamed positional found name all c
+pub some_named : (positional : List Expr) (found : List (Named Expr)) (name : List ℕ) → (all : Arguments Expr) × (c : Input) × AreNamed positional found name all c
 some_named positional found name =
     let (x, c, r) = some_is 0 (omega arith) in
     let (y, d, q) = some_closed close (arguments_of positional (found ++ named_as name x ∷ []) false) in
@@ -193,7 +193,7 @@ expr_not_first k none RT x c more (y, c1, c2, r, later, split) is =
     not_first k none 0 y c1 (c2 ++ more) r (ap next (sym (append_assoc c1 c2 more) ∙ ap (λ v. v ++ more) (sym split)) ∙ is)
 
 -- where nothing is left no expression begins
-expr_not_none : {T : Type 0} (RT : Expr → T → Input → Type 0) (x : T) (c more : Input) → Then (IsExpr 0) RT x c → next (c ++ more) ≢ None
+pub expr_not_none : {T : Type 0} (RT : Expr → T → Input → Type 0) (x : T) (c more : Input) → Then (IsExpr 0) RT x c → next (c ++ more) ≢ None
 expr_not_none RT x c more (y, c1, c2, r, later, split) is =
     let (s, c3, one, low) = first_of 0 y c1 r in
     let a : Some s.token ≡ None = ap (λ v. next ((v ++ c2) ++ more)) (sym one) ∙ ap (λ v. next (v ++ more)) (sym split) ∙ is in cc
@@ -219,7 +219,7 @@ module _ (expr : Level → Reader Expr) (bound : ℕ) (below : Below expr bound)
       ts (λ name. expect m.Assign >>= λ _. p name)
       (λ name left less. exact_expected_then (AreNamed positional found name) Any (some_named positional found name) left (p name) (λ left2 less2. later name left2 (omega arith)) m.Assign)
 
-  named_exact : (n : ℕ) (positional : List Expr) (found : List (Named Expr)) (name : List ℕ) (ts : Input) → length ts ≤ n → length ts < bound
+  pub named_exact : (n : ℕ) (positional : List Expr) (found : List (Named Expr)) (name : List ℕ) (ts : Input) → length ts ≤ n → length ts < bound
       → Exact (AreNamed positional found name) Any ts (named_from expr n positional found name ts)
   unfolding named_from
   named_exact zero positional found name [] few small = exact_refuse (AreNamed positional found name) Any [] (some_named positional found name)

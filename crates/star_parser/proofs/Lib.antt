@@ -12,3 +12,7 @@ pub mod Arguments
 pub mod Suffixes
 pub mod Whole
 pub mod NoEnd
+pub mod LayoutSteps
+pub mod LineMatches
+pub mod StatementParts
+pub mod Marks

@@ -25,6 +25,7 @@ use Rattle.star_syntax.proofs.StatementLemmas.{statement_spells}
 use Rattle.star_parser.specs.Reading.{Input, kinds, next}
 use Rattle.star_parser.specs.Lines.{Claim, Marks, free, plain, first_marked, small_marks, smalls_marks, line_marks, block_marks, branch_header, branch_marks, else_header, else_marks, for_header, def_header, statement_layer_marks, statement_marks, module_marks, OnLine, Matches}
 use Rattle.star_parser.specs.StatementTables.{first_line}
+use Rattle.star_parser.proofs.LineMatches.{matches_append}
 use Rattle.star_parser.proofs.StatementParts.{EachBlock, EachBranch, EachElse, EachPart, block_in, branches_in, else_in, induct_statement}
 
 -- ---- the tokens of a statement, over the statements in its blocks
@@ -222,31 +223,9 @@ matched_kinds [] (k ∷ x) h = absurd h
 matched_kinds (s ∷ c) [] h = absurd h
 matched_kinds (s ∷ c) (k ∷ x) h = ap (λ v. v ∷ kinds c) h.0 ∙ ap (λ v. k.0 ∷ v) (matched_kinds c x h.2)
 
-pub matched_plain : (c : Input) (ks : Tokens) → Matches c (plain ks) → kinds c ≡ ks
-matched_plain c ks h = matched_kinds c (plain ks) h ∙ tokens_plain ks
-
-pub plain_matched : (c : Input) (ks : Tokens) → kinds c ≡ ks → Matches c (plain ks)
-plain_matched [] [] h = tt
-plain_matched [] (k ∷ ks) h = absurd cc
-plain_matched (s ∷ c) [] h = absurd cc
-plain_matched (s ∷ c) (k ∷ ks) h = let h' : s.token ∷ kinds c ≡ k ∷ ks = h in (cc, tt, plain_matched c ks cc)
-
-pub matched_split : (c : Input) (x y : Marks) → Matches c (x ++ y) → (c1 : Input) × (c2 : Input) × (c ≡ c1 ++ c2) × Matches c1 x × Matches c2 y
-matched_split c [] y h = ([], c, refl, tt, h)
-matched_split [] (k ∷ x) y h = absurd h
-matched_split (s ∷ c) (k ∷ x) y h =
-    let (c1, c2, e, m1, m2) = matched_split c x y h.2 in
-    (s ∷ c1, c2, ap (λ v. s ∷ v) e, (h.0, h.1, m1), m2)
-
-pub matched_both : (a b : Input) (x y : Marks) → Matches a x → Matches b y → Matches (a ++ b) (x ++ y)
-matched_both [] b [] y h g = g
-matched_both [] b (k ∷ x) y h g = absurd h
-matched_both (s ∷ a) b [] y h g = absurd h
-matched_both (s ∷ a) b (k ∷ x) y h g = (h.0, h.1, matched_both a b x y h.2 g)
-
 -- one list matched in two parts
 pub matched_joined : (c a b : Input) (x y : Marks) → c ≡ a ++ b → Matches a x → Matches b y → Matches c (x ++ y)
-matched_joined c a b x y split h g = subst (λ v. Matches v (x ++ y)) (sym split) (matched_both a b x y h g)
+matched_joined c a b x y split h g = subst (λ v. Matches v (x ++ y)) (sym split) (matches_append a b x y h g)
 
 -- a first token, and what follows
 pub matched_cons : (c : Input) (k : Token) (x : Marks) → Matches c (free k ∷ x) → (s : Spanned) × (c' : Input) × (c ≡ s ∷ c') × (s.token ≡ k) × Matches c' x

@@ -4,5 +4,7 @@ pub mod Readers
 pub mod Ends
 pub mod Starts
 pub mod Verdict
+pub mod StatementTables
+pub mod StatementReaders
 pub mod Lines
 pub mod Trees
