@@ -16,3 +16,4 @@ pub mod LayoutSteps
 pub mod LineMatches
 pub mod StatementParts
 pub mod Marks
+pub mod Relining

@@ -174,10 +174,10 @@ unfolding tokens_of
 tokens_else None each = refl
 tokens_else (Some body) each = tokens_front else_header (body_marks body) (body_spelling body) (tokens_body body each)
 
-for_joined : (a b c : Tokens) → (t.Word w.For ∷ (a ++ t.Word w.In ∷ (b ++ t.Mark m.Colon ∷ []))) ++ c ≡ t.Word w.For ∷ (a ++ t.Word w.In ∷ (b ++ t.Mark m.Colon ∷ c))
+pub for_joined : (a b c : Tokens) → (t.Word w.For ∷ (a ++ t.Word w.In ∷ (b ++ t.Mark m.Colon ∷ []))) ++ c ≡ t.Word w.For ∷ (a ++ t.Word w.In ∷ (b ++ t.Mark m.Colon ∷ c))
 for_joined a b c = simp append_assoc
 
-def_joined : (name : List ℕ) (a b c : Tokens) → (t.Word w.Def ∷ t.Name name ∷ t.Mark m.OpenRound ∷ (a ++ (b ++ t.Mark m.CloseRound ∷ t.Mark m.Colon ∷ []))) ++ c
+pub def_joined : (name : List ℕ) (a b c : Tokens) → (t.Word w.Def ∷ t.Name name ∷ t.Mark m.OpenRound ∷ (a ++ (b ++ t.Mark m.CloseRound ∷ t.Mark m.Colon ∷ []))) ++ c
     ≡ t.Word w.Def ∷ t.Name name ∷ t.Mark m.OpenRound ∷ (a ++ (b ++ t.Mark m.CloseRound ∷ t.Mark m.Colon ∷ c))
 def_joined name a b c = simp append_assoc
 

@@ -29,15 +29,15 @@ EachPart P (Statement-F.Def at def) = EachBlock P def.body
 
 -- ---- parts, by what holds them
 
-pub block_in : {X : Type 0} → Statement-F X → Block X
+unfoldable pub block_in : {X : Type 0} → Statement-F X → Block X
 block_in (Statement-F.For at targets over body) = body
 block_in _ = Indented []
 
-pub branches_in : {X : Type 0} → Statement-F X → List (Branch X)
+unfoldable pub branches_in : {X : Type 0} → Statement-F X → List (Branch X)
 branches_in (Statement-F.If at first more other) = more
 branches_in _ = []
 
-pub else_in : {X : Type 0} → Statement-F X → Option (Block X)
+unfoldable pub else_in : {X : Type 0} → Statement-F X → Option (Block X)
 else_in (Statement-F.If at first more other) = other
 else_in _ = None
 
