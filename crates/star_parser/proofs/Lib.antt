@@ -3,3 +3,5 @@ pub mod Rules
 pub mod Steps
 pub mod Turns
 pub mod First
+pub mod Bracketed
+pub mod Clauses
