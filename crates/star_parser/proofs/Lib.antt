@@ -5,3 +5,6 @@ pub mod Turns
 pub mod First
 pub mod Bracketed
 pub mod Clauses
+pub mod Displays
+pub mod Lists
+pub mod Dicts
