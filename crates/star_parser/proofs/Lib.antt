@@ -8,3 +8,4 @@ pub mod Clauses
 pub mod Displays
 pub mod Lists
 pub mod Dicts
+pub mod Atoms
