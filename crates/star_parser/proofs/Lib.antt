@@ -17,3 +17,9 @@ pub mod LineMatches
 pub mod StatementParts
 pub mod Marks
 pub mod Relining
+pub mod Bracketed
+pub mod Clauses
+pub mod Displays
+pub mod Lists
+pub mod Dicts
+pub mod Atoms
