@@ -23,3 +23,5 @@ pub mod Displays
 pub mod Lists
 pub mod Dicts
 pub mod Atoms
+pub mod Openings
+pub mod Blocks
