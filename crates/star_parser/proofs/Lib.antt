@@ -25,3 +25,5 @@ pub mod Dicts
 pub mod Atoms
 pub mod Openings
 pub mod Blocks
+pub mod Headers
+pub mod Branches
