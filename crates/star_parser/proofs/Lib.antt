@@ -12,3 +12,4 @@ pub mod Arguments
 pub mod Suffixes
 pub mod LayoutSteps
 pub mod LineMatches
+pub mod TestLists
