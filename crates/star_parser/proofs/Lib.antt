@@ -13,3 +13,4 @@ pub mod Suffixes
 pub mod LayoutSteps
 pub mod LineMatches
 pub mod TestLists
+pub mod Smalls
