@@ -14,3 +14,4 @@ pub mod LayoutSteps
 pub mod LineMatches
 pub mod TestLists
 pub mod Smalls
+pub mod LineRules

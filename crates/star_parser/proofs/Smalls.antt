@@ -8,6 +8,7 @@ use Rattle.star_syntax.specs.declared.token.Token.TheVariants as t
 use Rattle.star_syntax.specs.declared.token.Keyword.{Keyword}
 use Rattle.star_syntax.specs.declared.token.Keyword.TheVariants as w
 use Rattle.star_syntax.specs.declared.token.Mark.TheVariants as m
+use Rattle.star_syntax.specs.declared.token.Spanned.{Spanned}
 use Rattle.star_syntax.specs.declared.operator.BinaryOp.{BinaryOp}
 use Rattle.star_syntax.specs.declared.operator.BinaryOp.TheVariants as op
 use Rattle.star_syntax.specs.declared.expression.Expr.{Expr}
@@ -493,6 +494,45 @@ some_small = let s = some_token (t.Word w.Pass) in (on 0 Pass, s ∷ [], (record
 
 pub small_some : (x : Small) (c : Input) → IsSmall x c → c ≢ []
 small_some x c h = kind_some x.kind c h.0
+
+-- ---- first tokens
+
+-- the token begins small statements, where this is not 0
+abbrev pub small_starts : Token → ℕ
+small_starts (t.Word w.Return) = 1
+small_starts (t.Word w.Break) = 1
+small_starts (t.Word w.Continue) = 1
+small_starts (t.Word w.Pass) = 1
+small_starts k = starts k
+
+starts_small : (k : Token) → starts k ≤ small_starts k
+starts_small (t.Word w.Return) = omega arith
+starts_small (t.Word w.Break) = omega arith
+starts_small (t.Word w.Continue) = omega arith
+starts_small (t.Word w.Pass) = omega arith
+starts_small _ = omega arith
+
+word_first : (k : Token) (ks : Tokens) (c : Input) → kinds c ≡ k ∷ ks → 0 < small_starts k → (s : Spanned) × (d : Input) × (c ≡ s ∷ d) × (0 < small_starts s.token)
+word_first k ks c h low = let (s, d, split, is, later) = kinds_cons c k ks h in (s, d, split, subst (λ v. 0 < small_starts v) (sym is) low)
+
+phrase_first : (kind : SmallKind) (c : Input) → Phrase kind c → (s : Spanned) × (d : Input) × (c ≡ s ∷ d) × (0 < small_starts s.token)
+phrase_first kind c (x, c1, c2, r, later, split) =
+    let (s, d, is, low) = first_of 0 x c1 r in
+    let a = starts_small s.token in
+    (s, d ++ c2, split ∙ ap (λ v. v ++ c2) is, omega arith)
+
+kind_first : (kind : SmallKind) (c : Input) → IsKind kind c → (s : Spanned) × (d : Input) × (c ≡ s ∷ d) × (0 < small_starts s.token)
+kind_first (Return values) c h = word_first (t.Word w.Return) (tests_spelling values) c h.spelt (omega arith)
+kind_first Break c h = word_first (t.Word w.Break) [] c h.spelt (omega arith)
+kind_first Continue c h = word_first (t.Word w.Continue) [] c h.spelt (omega arith)
+kind_first Pass c h = word_first (t.Word w.Pass) [] c h.spelt (omega arith)
+kind_first (Assign found values) c h = phrase_first (Assign found values) c (assign_back found values c h)
+kind_first (Augmented x o values) c h = phrase_first (Augmented x o values) c (augmented_back x o values c h)
+kind_first (Tests found) c h = phrase_first (Tests found) c (tests_back found c h)
+
+-- the first token of a small statement
+pub small_first : (x : Small) (c : Input) → IsSmall x c → (s : Spanned) × (d : Input) × (c ≡ s ∷ d) × (0 < small_starts s.token)
+small_first x c h = kind_first x.kind c h.0
 
 module _ (expr : Level → Reader Expr) (bound : ℕ) (below : Below expr bound) where
   pub small_exact : (ts : Input) → length ts < bound → Exact IsSmall EndsSmall ts (small expr ts)
