@@ -15,3 +15,4 @@ pub mod LineMatches
 pub mod TestLists
 pub mod Smalls
 pub mod LineRules
+pub mod Parameters
