@@ -1,8 +1,8 @@
 -- Lines of small statements are read exactly.
-use Rattle.std.proofs.Common.{◌≡◌, ◌≢◌, ◌∙◌, ◌⊎◌, inl, inr, ℕ, zero, suc, ◌+◌, ◌≤◌, ◌<◌, Bool, true, false, List, [], ◌∷◌, ◌++◌, map, Option, Some, None, Result, Ok, Err, refl, sym, ap, subst, arith, rules, append_assoc, length}
+use Rattle.std.proofs.Common.{◌≡◌, ◌≢◌, ◌∙◌, ◌⊎◌, inl, inr, ℕ, zero, suc, ◌≤◌, ◌<◌, Bool, true, false, List, [], ◌∷◌, ◌++◌, Some, None, refl, sym, ap, subst, arith, append_assoc, length}
 use Rattle.std.proofs.lemmas.List.{append-nil}
 use Rattle.std.specs.Prelude.{if◌then◌else◌}
-use Rattle.std.specs.List.{AllByRecursion, flat_map}
+use Rattle.std.specs.List.{AllByRecursion}
 use Rattle.star_syntax.specs.declared.token.Token.{Token}
 use Rattle.star_syntax.specs.declared.token.Token.TheVariants as t
 use Rattle.star_syntax.specs.declared.token.Mark.TheVariants as m
@@ -13,13 +13,13 @@ use Rattle.star_syntax.specs.declared.statement.Line.{Line}
 use Rattle.star_syntax.specs.Spelling.{Tokens, if_written}
 use Rattle.star_syntax.specs.Levels.{KindFits, LineFits}
 use Rattle.star_parser.specs.declared.level.Level.{Level}
-use Rattle.star_parser.specs.Reading.{Input, Outcome, Reader, and_then, ◌>>=◌, ◌>>◌, pure, next, skip, kinds}
+use Rattle.star_parser.specs.Reading.{Input, Reader, and_then, ◌>>=◌, pure, next, kinds}
 use Rattle.star_parser.specs.Tables.{eat}
 use Rattle.star_parser.specs.StatementTables.{is_newline, eat_newline, expect_newline}
 use Rattle.star_parser.specs.StatementReaders.{line_of, small, smalls_from, line}
 use Rattle.star_parser.specs.Lines.{Marks, free, plain, small_marks, smalls_marks, line_marks, Matches}
 use Rattle.star_parser.proofs.Exact.{Exact, Then, Just, exact_refuse, exact_then, exact_by, exact_same, exact_pure}
-use Rattle.star_parser.proofs.Steps.{Tok, some_token, exact_token_then, exact_eat, token_next}
+use Rattle.star_parser.proofs.Steps.{Tok, exact_token_then, exact_eat, token_next}
 use Rattle.star_parser.proofs.Rules.{length_after}
 use Rattle.star_parser.proofs.Closing.{Any, Closed, closed_there, closed_back, some_closed, closed_exact}
 use Rattle.star_parser.proofs.Chains.{Below}

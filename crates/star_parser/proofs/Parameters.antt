@@ -1,28 +1,26 @@
 -- The parameters of functions are read exactly.
-use Rattle.std.proofs.Common.{◌≡◌, ◌≢◌, ◌∙◌, ◌⊎◌, inl, inr, ℕ, zero, suc, ◌+◌, ◌≤◌, ◌<◌, Bool, true, false, List, [], ◌∷◌, ◌++◌, map, Option, Some, None, Result, Ok, Err, refl, sym, ap, subst, arith, rules, append_assoc, length}
+use Rattle.std.proofs.Common.{◌≡◌, ◌≢◌, ◌∙◌, ◌⊎◌, inl, inr, ℕ, zero, suc, ◌≤◌, ◌<◌, Bool, true, false, List, [], ◌∷◌, ◌++◌, map, Some, None, refl, sym, ap, subst, arith, append_assoc, length}
 use Rattle.std.proofs.lemmas.List.{append-nil}
 use Rattle.std.specs.Prelude.{if◌then◌else◌}
-use Rattle.star_syntax.specs.declared.token.Token.{Token}
 use Rattle.star_syntax.specs.declared.token.Token.TheVariants as t
 use Rattle.star_syntax.specs.declared.token.Mark.TheVariants as m
-use Rattle.star_syntax.specs.declared.token.Spanned.{Spanned}
 use Rattle.star_syntax.specs.declared.expression.Named.{Named}
 use Rattle.star_syntax.specs.declared.expression.Arguments.{Arguments}
 use Rattle.star_syntax.specs.declared.expression.Expr.{Expr}
 use Rattle.star_syntax.specs.Spelling.{Tokens, expr_spelling, parameters_spelling, listed}
 use Rattle.star_syntax.specs.SpellingOfParts.{name_token}
-use Rattle.star_syntax.specs.Levels.{IsLevelled, CommaFits}
+use Rattle.star_syntax.specs.Levels.{CommaFits}
 use Rattle.star_parser.specs.declared.level.Level.{Level}
-use Rattle.star_parser.specs.Reading.{Input, Outcome, Reader, and_then, ◌>>=◌, ◌>>◌, pure, next, skip, kinds}
-use Rattle.star_parser.specs.Tables.{eat, expect, expect_name}
+use Rattle.star_parser.specs.Reading.{Input, Reader, and_then, ◌>>=◌, pure, next, kinds}
+use Rattle.star_parser.specs.Tables.{eat, expect}
 use Rattle.star_parser.specs.Readers.{named_from, arguments_of}
 use Rattle.star_parser.specs.StatementReaders.{parameters_from, parameters}
-use Rattle.star_parser.proofs.Exact.{Exact, Then, Just, exact_refuse, exact_by, exact_same, exact_pure}
-use Rattle.star_parser.proofs.Steps.{Tok, some_token, exact_token_then, exact_eat, exact_last, token_next}
+use Rattle.star_parser.proofs.Exact.{Exact, Then, Just, exact_refuse, exact_by, exact_same}
+use Rattle.star_parser.proofs.Steps.{Tok, exact_token_then, exact_eat, exact_last, token_next}
 use Rattle.star_parser.proofs.Words.{NameToken, some_name, exact_name_then}
-use Rattle.star_parser.proofs.Rules.{kinds_cons, kinds_none, length_after}
+use Rattle.star_parser.proofs.Rules.{kinds_cons}
 use Rattle.star_parser.proofs.First.{last_there, last_back}
-use Rattle.star_parser.proofs.Closing.{Any, Closed, closed_there, closed_back, some_closed, closed_exact, comma, AfterComma, Tail, some_tail, tail_next, tail_exact, token_spelt}
+use Rattle.star_parser.proofs.Closing.{Any, Closed, closed_there, closed_back, some_closed, closed_exact, comma, Tail, some_tail, tail_next, tail_exact, token_spelt}
 use Rattle.star_parser.proofs.Chains.{Below}
 use Rattle.star_parser.proofs.Arguments.{close, assign, named_as, ending, commas, commas_of, NamedLevelled, phrases, AreNamed, some_named, named_exact}
 

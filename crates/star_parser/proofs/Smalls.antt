@@ -1,5 +1,5 @@
 -- Small statements are read exactly.
-use Rattle.std.proofs.Common.{◌≡◌, ◌≢◌, ◌∙◌, ◌⊎◌, inl, inr, ℕ, ◌+◌, ◌≤◌, ◌<◌, Bool, true, false, List, [], ◌∷◌, ◌++◌, map, Option, Some, None, Result, Ok, Err, refl, sym, ap, subst, arith, rules, append_assoc, length}
+use Rattle.std.proofs.Common.{◌≡◌, ◌≢◌, ◌∙◌, ◌⊎◌, inl, inr, ℕ, ◌≤◌, ◌<◌, Bool, true, false, List, [], ◌∷◌, ◌++◌, Option, Some, None, refl, sym, ap, subst, arith, append_assoc, length}
 use Rattle.std.proofs.lemmas.List.{append-nil}
 use Rattle.std.specs.Prelude.{if◌then◌else◌, ◌&&◌, ◌||◌}
 use Rattle.std.specs.List.{AllByRecursion}
@@ -19,7 +19,7 @@ use Rattle.star_syntax.specs.Spelling.{Tokens, expr_spelling, tests_spelling, ki
 use Rattle.star_syntax.specs.Levels.{AllLevelled, KindFits, is_target, is_place}
 use Rattle.star_parser.specs.declared.level.Level.{Level}
 use Rattle.star_parser.specs.declared.level.Level.TheVariants as level
-use Rattle.star_parser.specs.Reading.{Input, Outcome, Reader, and_then, ◌>>=◌, ◌>>◌, pure, next, peek, skip, kinds}
+use Rattle.star_parser.specs.Reading.{Input, Reader, and_then, ◌>>=◌, ◌>>◌, pure, next, peek, skip, kinds}
 use Rattle.star_parser.specs.Tables.{is_mark, eat_word}
 use Rattle.star_parser.specs.StatementTables.{is_newline, ends_small, augmented_op, first_line}
 use Rattle.star_parser.specs.StatementReaders.{are_targets, place_op, tests_after, tests, returned, assigned, augmented, assigned_by, listed, phrase_by, phrase, small_kind, small}
@@ -28,7 +28,7 @@ use Rattle.star_parser.specs.Starts.{starts}
 use Rattle.star_parser.specs.Ends.{reach, Ends}
 use Rattle.star_parser.proofs.Exact.{Exact, Then, Just, exact_then, exact_by, exact_same, exact_pure}
 use Rattle.star_parser.proofs.Steps.{Tok, some_token, exact_token_then, exact_eat_word, exact_last, token_next, mark_is, is_mark_itself}
-use Rattle.star_parser.proofs.Rules.{IsExpr, kinds_split, kinds_cons, kinds_none, kinds_append, next_kind, length_after, some_is}
+use Rattle.star_parser.proofs.Rules.{IsExpr, kinds_split, kinds_cons, kinds_none, kinds_append, next_kind, length_after}
 use Rattle.star_parser.proofs.First.{first_of, last_there, last_back}
 use Rattle.star_parser.proofs.Closing.{comma, closed_there, closed_back, token_spelt, not_first}
 use Rattle.star_parser.proofs.Chains.{Below}
