@@ -1,12 +1,11 @@
 -- The readers of the tokens between statements are exact, and so are readers that give the line of their first token.
-use Rattle.std.proofs.Common.{◌≡◌, ◌≢◌, ◌∙◌, ℕ, ◌<◌, Bool, true, false, List, [], ◌∷◌, ◌++◌, Option, Some, None, Result, Ok, Err, refl, sym, ap, subst, length}
+use Rattle.std.proofs.Common.{◌≡◌, ◌≢◌, ◌∙◌, ℕ, ◌<◌, Bool, true, false, [], ◌∷◌, ◌++◌, Option, Some, Ok, Err, refl, sym, ap, subst, length}
 use Rattle.std.specs.Prelude.{if◌then◌else◌}
 use Rattle.star_syntax.specs.declared.token.Token.{Token}
 use Rattle.star_syntax.specs.declared.token.Token.TheVariants as t
-use Rattle.star_syntax.specs.declared.token.Spanned.{Spanned}
-use Rattle.star_parser.specs.Reading.{Input, Outcome, Reader, and_then, ◌>>=◌, ◌>>◌, pure, refuse, next, skip}
+use Rattle.star_parser.specs.Reading.{Input, Outcome, Reader, and_then, ◌>>◌, pure, next, skip}
 use Rattle.star_parser.specs.StatementTables.{is_newline, is_indent, is_dedent, is_end, eat_by, expect_by, first_line}
-use Rattle.star_parser.proofs.Exact.{Exact, Reads, Refuses, Then, exact_then}
+use Rattle.star_parser.proofs.Exact.{Exact, Then, exact_then}
 use Rattle.star_parser.proofs.Steps.{Tok, exact_expect_by}
 use Rattle.star_parser.proofs.Rules.{length_less}
 

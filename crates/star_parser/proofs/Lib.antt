@@ -27,3 +27,7 @@ pub mod Openings
 pub mod Blocks
 pub mod Headers
 pub mod Branches
+pub mod TestLists
+pub mod Smalls
+pub mod LineRules
+pub mod Parameters

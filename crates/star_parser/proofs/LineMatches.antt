@@ -1,10 +1,8 @@
 -- Tokens on lines that are claimed, in parts.
-use Rattle.std.proofs.Common.{◌≡◌, ◌≢◌, ◌∙◌, ℕ, List, [], ◌∷◌, ◌++◌, map, Option, Some, None, refl, sym, ap, subst}
-use Rattle.star_syntax.specs.declared.token.Token.{Token}
-use Rattle.star_syntax.specs.declared.token.Spanned.{Spanned}
+use Rattle.std.proofs.Common.{◌≡◌, ◌≢◌, ℕ, [], ◌∷◌, ◌++◌, refl, ap}
 use Rattle.star_syntax.specs.Spelling.{Tokens}
 use Rattle.star_parser.specs.Reading.{Input, kinds}
-use Rattle.star_parser.specs.Lines.{Marks, free, plain, first_marked, OnLine, Matches}
+use Rattle.star_parser.specs.Lines.{Marks, plain, first_marked, Matches}
 use Rattle.star_parser.specs.StatementTables.{first_line}
 
 -- a list that is claimed in two parts has two parts

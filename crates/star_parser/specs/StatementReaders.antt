@@ -13,7 +13,6 @@ use Rattle.star_syntax.specs.declared.statement.Line.{Line}
 use Rattle.star_syntax.specs.declared.statement.Block.{Block}
 use Rattle.star_syntax.specs.declared.statement.Block.TheVariants.{Inline, Indented}
 use Rattle.star_syntax.specs.declared.statement.Branch.{Branch}
-use Rattle.star_syntax.specs.declared.statement.Definition.{Definition}
 use Rattle.star_syntax.specs.declared.statement.Statement.{Statement}
 use Rattle.star_syntax.specs.declared.statement.Statement.TheVariants as s
 use Rattle.star_syntax.specs.declared.statement.Module.{Module}
