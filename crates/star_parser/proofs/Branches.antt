@@ -31,10 +31,11 @@ use Rattle.star_parser.proofs.First.{last_there, last_back}
 use Rattle.star_parser.proofs.Chains.{Below}
 use Rattle.star_parser.proofs.Closing.{Any, token_ends}
 use Rattle.star_parser.proofs.LineMatches.{matches_split}
+use Rattle.star_parser.proofs.LineRules.{IsLine}
 use Rattle.star_parser.proofs.StatementParts.{EachBranch, EachElse, EachPart}
 use Rattle.star_parser.proofs.Marks.{body_marks, case_marks, otherwise_marks, parts_marks, matched_joined, matched_cons, matched_line}
 use Rattle.star_parser.proofs.Openings.{line_first}
-use Rattle.star_parser.proofs.Blocks.{IsLine, IsSpelled, EndsStatement, IsBlock}
+use Rattle.star_parser.proofs.Blocks.{IsSpelled, EndsStatement, IsBlock}
 use Rattle.star_parser.proofs.Headers.{fronted, front_split, matched_token, TokAt, exact_tok_at, ColonBlock, IsColoned, colon_there, colon_back, some_colon, colon_exact, IsNode, node_of, of_node}
 
 pub matched_none : (c : Input) → Matches c [] → c ≡ []
