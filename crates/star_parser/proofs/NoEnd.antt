@@ -109,11 +109,13 @@ step (Some x) h = (refl, optional x h)
 
 arguments : (given : Arguments Expr) → EachArgument Clean given → Within (expr_arguments_spelling given)
 unfolding Clean
-arguments given h =
-    (refl, closed _ given.comma (t.Mark m.CloseRound) refl (listed_within (map expr_spelling given.positional ++ map default_spelling given.named)
-    (all_joined Within (map expr_spelling given.positional) (map default_spelling given.named)
-    (all_mapped Clean Within expr_spelling (λ x held. held) given.positional h.0)
-    (all_mapped (λ named. Clean named.value) Within default_spelling (λ x held. (refl, (refl, held))) given.named h.1))))
+arguments given h = (
+  refl,
+  closed _ given.comma (t.Mark m.CloseRound) refl (listed_within (map expr_spelling given.positional ++ map default_spelling given.named)
+      (all_joined Within (map expr_spelling given.positional) (map default_spelling given.named)
+      (all_mapped Clean Within expr_spelling (λ x held. held) given.positional h.0)
+      (all_mapped (λ named. Clean named.value) Within default_spelling (λ x held. (refl, (refl, held))) given.named h.1))),
+)
 
 suffix : (x : Suffix Expr) → EachSuffix Clean x → Within (expr_suffix_spelling x)
 unfolding Clean
@@ -185,9 +187,14 @@ node (Expr-F.ListOver item xs) h =
     (refl, joined (expr_spelling item) _ h.0 (joined (flat_map expr_clause_spelling xs) _ (flat_within (EachClause Clean) expr_clause_spelling clause xs h.1) (refl, tt)))
 node (Expr-F.Dict xs b) h =
     (refl, closed (listed (map expr_pair_spelling xs)) b (t.Mark m.CloseCurly) refl (listed_within (map expr_pair_spelling xs) (all_mapped (EachPair Clean) Within expr_pair_spelling pair xs h)))
-node (Expr-F.DictOver key value xs) h =
-    (refl, joined (expr_spelling key) _ h.0 (refl, joined (expr_spelling value) _ h.1
-    (joined (flat_map expr_clause_spelling xs) _ (flat_within (EachClause Clean) expr_clause_spelling clause xs h.2) (refl, tt))))
+node (Expr-F.DictOver key value xs) h = (
+  refl,
+  joined (expr_spelling key) _ h.0 (
+    refl,
+    joined (expr_spelling value) _ h.1
+        (joined (flat_map expr_clause_spelling xs) _ (flat_within (EachClause Clean) expr_clause_spelling clause xs h.2) (refl, tt)),
+  ),
+)
 node (Expr-F.Primary head xs) h = joined (expr_spelling head) _ h.0 (flat_within (EachSuffix Clean) expr_suffix_spelling suffix xs h.1)
 node (Expr-F.Signed xs operand) h = joined (map sign_token xs) _ (signs xs) h
 node (Expr-F.Chain l first xs) h = joined (expr_spelling first) _ h.0 (flat_within (EachLink Clean) expr_link_spelling link xs h.1)

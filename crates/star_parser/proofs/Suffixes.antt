@@ -122,6 +122,7 @@ written expr E ts narrow not_here reads =
   where
     there : (b : Option Expr) (c : Input) → Then (IsExpr 0) (λ x. Just (Some x)) b c → IsBound b c
     there b c h = let (x, r, is) = last_there (IsExpr 0) (λ x. Some x) b c h in subst (λ v. IsBound v c) (sym is) r
+
     back : (b : Option Expr) (c more : Input) → IsBound b c → E more → next (c ++ more) ≡ next ts → Then (IsExpr 0) (λ x. Just (Some x)) b c
     back None c more empty ends look = absurd (not_here more ends (ap (λ v. next (v ++ more)) (sym empty) ∙ look))
     back (Some x) c more r ends look = last_back (IsExpr 0) (λ x. Some x) (Some x) c x r refl
