@@ -1,12 +1,11 @@
 -- The arguments of a call are read exactly.
-use Rattle.std.proofs.Common.{◌≡◌, ◌≢◌, ◌∙◌, ◌⊎◌, inl, inr, ℕ, zero, suc, ◌+◌, ◌≤◌, ◌<◌, Bool, true, false, List, [], ◌∷◌, ◌++◌, map, Option, Some, None, Result, Ok, Err, refl, sym, ap, subst, arith, rules, append_assoc, length}
+use Rattle.std.proofs.Common.{◌≡◌, ◌≢◌, ◌∙◌, ◌⊎◌, inl, inr, ℕ, zero, suc, ◌+◌, ◌≤◌, ◌<◌, Bool, true, false, List, [], ◌∷◌, ◌++◌, map, Option, Some, None, refl, sym, ap, subst, arith, append_assoc, length}
 use Rattle.std.proofs.lemmas.List.{append-nil}
 use Rattle.std.specs.Prelude.{if◌then◌else◌}
 use Rattle.std.specs.List.{flat_map, AllByRecursion}
 use Rattle.star_syntax.specs.declared.token.Token.{Token}
 use Rattle.star_syntax.specs.declared.token.Token.TheVariants as t
 use Rattle.star_syntax.specs.declared.token.Mark.TheVariants as m
-use Rattle.star_syntax.specs.declared.token.Spanned.{Spanned}
 use Rattle.star_syntax.specs.declared.expression.Named.{Named}
 use Rattle.star_syntax.specs.declared.expression.Arguments.{Arguments}
 use Rattle.star_syntax.specs.declared.expression.Expr.{Expr, out-Expr, roll-Expr, out-roll-Expr, roll-out-Expr}
@@ -14,21 +13,21 @@ use Rattle.star_syntax.specs.declared.expression.Expr.TheOpen.{Expr-F}
 use Rattle.star_syntax.specs.declared.expression.Expr.TheVariants as e
 use Rattle.star_syntax.specs.Spelling.{Tokens, expr_spelling, default_spelling, listed, if_written}
 use Rattle.star_syntax.specs.SpellingOfParts.{listed_arguments}
-use Rattle.star_syntax.specs.Levels.{IsLevelled, rank, CommaFits, ArgumentsFit}
+use Rattle.star_syntax.specs.Levels.{IsLevelled, ArgumentsFit}
 use Rattle.star_syntax.proofs.Levelled.{EachArgument, levelled_made}
 use Rattle.star_syntax.proofs.SpellingLemmas.{spells-Name}
 use Rattle.star_parser.specs.declared.level.Level.{Level}
 use Rattle.star_parser.specs.declared.level.Level.TheVariants as level
-use Rattle.star_parser.specs.Reading.{Input, Outcome, Reader, and_then, ◌>>=◌, ◌>>◌, pure, refuse, next, rest, peek, skip, kinds}
+use Rattle.star_parser.specs.Reading.{Input, Reader, ◌>>=◌, ◌>>◌, pure, next, rest, kinds}
 use Rattle.star_parser.specs.Tables.{eat, expect, expect_name}
 use Rattle.star_parser.specs.Readers.{arguments_of, layer_name, name_of, named_from, positional_by, argument_by, arguments_from, arguments}
 use Rattle.star_parser.specs.Starts.{starts}
-use Rattle.star_parser.specs.Ends.{reach, Ends}
-use Rattle.star_parser.proofs.Exact.{Exact, Then, Just, exact_refuse, exact_then, exact_by, exact_same, exact_pure}
+use Rattle.star_parser.specs.Ends.{Ends}
+use Rattle.star_parser.proofs.Exact.{Exact, Then, Just, exact_refuse, exact_then, exact_by, exact_same}
 use Rattle.star_parser.proofs.Steps.{Tok, some_token, exact_token_then, exact_expected_then, exact_eat, token_next}
 use Rattle.star_parser.proofs.Words.{NameToken, exact_name_then}
-use Rattle.star_parser.proofs.Closing.{Any, Closed, closed_there, closed_back, some_closed, closed_exact, comma, AfterComma, Tail, some_tail, tail_ends, tail_next, tail_exact, not_first, token_spelt, token_ends}
-use Rattle.star_parser.proofs.Rules.{IsExpr, kinds_split, kinds_cons, kinds_none, kinds_append, next_kind, length_after, some_is}
+use Rattle.star_parser.proofs.Closing.{Any, Closed, closed_there, closed_back, some_closed, closed_exact, comma, Tail, some_tail, tail_ends, tail_next, tail_exact, not_first, token_spelt, token_ends}
+use Rattle.star_parser.proofs.Rules.{IsExpr, kinds_split, kinds_cons, kinds_append, length_after, some_is}
 use Rattle.star_parser.proofs.First.{first_of}
 use Rattle.star_parser.proofs.Chains.{Below}
 

@@ -1,5 +1,5 @@
 -- A chain of operators is read exactly.
-use Rattle.std.proofs.Common.{◌≡◌, ◌≢◌, ◌∙◌, ℕ, zero, suc, ◌+◌, ◌≤◌, ◌<◌, Bool, true, false, List, [], ◌∷◌, ◌++◌, map, Option, Some, None, Result, Ok, Err, refl, sym, ap, subst, arith, rules, append_assoc, length}
+use Rattle.std.proofs.Common.{◌≡◌, ◌≢◌, ◌∙◌, ℕ, zero, suc, ◌+◌, ◌≤◌, ◌<◌, Bool, true, false, List, [], ◌∷◌, ◌++◌, Option, Some, None, Ok, refl, sym, ap, subst, arith, append_assoc, length}
 use Rattle.std.specs.List.{flat_map, AllByRecursion}
 use Rattle.std.proofs.lemmas.List.{append-nil}
 use Rattle.std.specs.Prelude.{if◌then◌else◌, ◌==◌}
@@ -14,7 +14,6 @@ use Rattle.star_syntax.specs.declared.token.Token.{Token}
 use Rattle.star_syntax.specs.declared.token.Token.TheVariants as t
 use Rattle.star_syntax.specs.declared.token.Keyword.TheVariants as w
 use Rattle.star_syntax.specs.declared.token.Mark.TheVariants as m
-use Rattle.star_syntax.specs.declared.token.Spanned.{Spanned}
 use Rattle.star_syntax.specs.declared.expression.ChainLevel.{ChainLevel}
 use Rattle.star_syntax.specs.declared.expression.ChainLevel.TheVariants as chain
 use Rattle.star_syntax.specs.declared.expression.ChainOp.{ChainOp}
@@ -23,16 +22,16 @@ use Rattle.star_syntax.specs.declared.operator.BinaryOp.TheVariants as binary
 use Rattle.star_syntax.specs.contracts.expression.ChainLevel.{the_type as level_type}
 use Rattle.star_syntax.specs.declared.expression.Link.{Link}
 use Rattle.star_syntax.specs.declared.expression.Expr.{Expr}
-use Rattle.star_syntax.specs.Spelling.{Tokens, expr_spelling, chain_token}
+use Rattle.star_syntax.specs.Spelling.{expr_spelling, chain_token}
 use Rattle.star_syntax.specs.SpellingOfParts.{expr_link_spelling}
 use Rattle.star_syntax.specs.Levels.{IsLevelled, Fits, LinkFits, rank, layer_rank, chain_rank, op_level}
 use Rattle.star_parser.specs.declared.level.Level.{Level}
-use Rattle.star_parser.specs.Reading.{Input, Outcome, Reader, and_then, ◌>>=◌, ◌>>◌, pure, refuse, next, rest, peek, skip, kinds}
+use Rattle.star_parser.specs.Reading.{Input, Reader, and_then, pure, next, skip, kinds}
 use Rattle.star_parser.specs.Tables.{chain_op, of_level, token_op}
 use Rattle.star_parser.specs.Readers.{links_from, links_by, chained, with_links}
 use Rattle.star_parser.specs.Ends.{reach, Ends, level_rank}
-use Rattle.star_parser.proofs.Exact.{Exact, Reads, Refuses, Then, Just, exact_refuse, exact_then, exact_by, exact_same, exact_pure}
-use Rattle.star_parser.proofs.Steps.{Tok, exact_skip, some_token}
+use Rattle.star_parser.proofs.Exact.{Exact, Then, Just, exact_then, exact_by, exact_same, exact_pure}
+use Rattle.star_parser.proofs.Steps.{Tok, exact_skip}
 use Rattle.star_parser.proofs.Rules.{IsExpr, kinds_split, kinds_cons, kinds_none, kinds_append, next_kind, length_after, length_less, some_is}
 
 -- ---- operators

@@ -1,5 +1,5 @@
 -- What a mark closes, and what stands between two commas before it, is read exactly.
-use Rattle.std.proofs.Common.{◌≡◌, ◌≢◌, ◌∙◌, ◌⊎◌, inl, inr, ℕ, ◌<◌, Bool, true, false, List, [], ◌∷◌, ◌++◌, Option, Some, None, refl, sym, ap, subst, arith, length}
+use Rattle.std.proofs.Common.{◌≡◌, ◌≢◌, ◌∙◌, ◌⊎◌, inl, inr, ℕ, ◌<◌, [], ◌∷◌, ◌++◌, Some, refl, sym, ap, arith, length}
 use Rattle.std.specs.Prelude.{if◌then◌else◌}
 use Rattle.star_syntax.specs.declared.token.Token.{Token}
 use Rattle.star_syntax.specs.declared.token.Token.TheVariants as t
@@ -7,7 +7,7 @@ use Rattle.star_syntax.specs.declared.token.Mark.{Mark}
 use Rattle.star_syntax.specs.declared.token.Mark.TheVariants as m
 use Rattle.star_syntax.specs.declared.token.Spanned.{Spanned}
 use Rattle.star_syntax.specs.declared.expression.Expr.{Expr}
-use Rattle.star_parser.specs.Reading.{Input, Outcome, Reader, and_then, ◌>>=◌, ◌>>◌, pure, next, skip, kinds}
+use Rattle.star_parser.specs.Reading.{Input, Reader, and_then, ◌>>=◌, ◌>>◌, pure, next, skip, kinds}
 use Rattle.star_parser.specs.Tables.{eat, expect}
 use Rattle.star_parser.specs.Starts.{starts}
 use Rattle.star_parser.specs.Ends.{reach, Ends}

@@ -6,7 +6,6 @@ use Rattle.star_syntax.specs.declared.token.Token.TheVariants as t
 use Rattle.star_syntax.specs.declared.token.Mark.{Mark}
 use Rattle.star_syntax.specs.declared.token.Mark.TheVariants as m
 use Rattle.star_syntax.specs.declared.token.Keyword.TheVariants as w
-use Rattle.star_syntax.specs.declared.operator.BinaryOp.{BinaryOp}
 use Rattle.star_syntax.specs.declared.operator.BinaryOp.TheVariants as binary
 use Rattle.star_syntax.specs.declared.operator.UnaryOp.{UnaryOp}
 use Rattle.star_syntax.specs.declared.operator.UnaryOp.TheVariants as sign
@@ -15,14 +14,13 @@ use Rattle.star_syntax.specs.declared.operator.CompareOp.TheVariants as cmp
 use Rattle.star_syntax.specs.declared.expression.ChainOp.{ChainOp}
 use Rattle.star_syntax.specs.declared.expression.ChainOp.TheVariants as op
 use Rattle.star_syntax.specs.declared.expression.Link.{Link}
-use Rattle.star_syntax.specs.declared.expression.Named.{Named}
 use Rattle.star_syntax.specs.declared.expression.Pair.{Pair}
 use Rattle.star_syntax.specs.declared.expression.Arguments.{Arguments}
 use Rattle.star_syntax.specs.declared.expression.Clause.{Clause}
 use Rattle.star_syntax.specs.declared.expression.Clause.TheVariants.{For, If}
 use Rattle.star_syntax.specs.declared.expression.Suffix.{Suffix}
 use Rattle.star_syntax.specs.declared.expression.Suffix.TheVariants.{Index, Slice, Call, Method}
-use Rattle.star_syntax.specs.declared.expression.Expr.{Expr, roll-Expr}
+use Rattle.star_syntax.specs.declared.expression.Expr.{Expr}
 use Rattle.star_syntax.specs.declared.expression.Expr.TheOpen.{Expr-F}
 use Rattle.star_syntax.specs.Spelling.{Tokens, expr_spelling, tests_spelling, default_spelling, listed, sign_token, chain_token, compare_tokens, if_written}
 use Rattle.star_syntax.specs.SpellingOfParts.{parts_spelling, optional_spelling, expr_step_spelling, expr_suffix_spelling, expr_arguments_spelling, expr_link_spelling, expr_clause_spelling, expr_pair_spelling}

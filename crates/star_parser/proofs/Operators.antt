@@ -1,5 +1,5 @@
 -- Comparisons, conditionals, signs and `not` are read exactly.
-use Rattle.std.proofs.Common.{◌≡◌, ◌≢◌, ◌∙◌, ◌⊎◌, inl, inr, ℕ, zero, suc, ◌+◌, ◌≤◌, ◌<◌, Bool, true, false, List, [], ◌∷◌, ◌++◌, map, replicate, Option, Some, None, Result, Ok, Err, refl, sym, ap, subst, arith, rules, append_assoc, length}
+use Rattle.std.proofs.Common.{◌≡◌, ◌∙◌, ◌⊎◌, inl, inr, ℕ, ◌+◌, ◌≤◌, ◌<◌, [], ◌∷◌, ◌++◌, Option, Some, None, Ok, refl, sym, ap, subst, arith, length}
 use Rattle.std.proofs.lemmas.List.{append-nil}
 use Rattle.std.specs.Prelude.{if◌then◌else◌}
 use Rattle.star_syntax.specs.declared.token.Token.{Token}
@@ -9,7 +9,7 @@ use Rattle.star_syntax.specs.declared.token.Mark.TheVariants as m
 use Rattle.star_syntax.specs.declared.token.Spanned.{Spanned}
 use Rattle.star_syntax.specs.declared.operator.CompareOp.{CompareOp}
 use Rattle.star_syntax.specs.declared.operator.CompareOp.TheVariants as cmp
-use Rattle.star_syntax.specs.declared.expression.Expr.{Expr, out-Expr, roll-Expr}
+use Rattle.star_syntax.specs.declared.expression.Expr.{Expr, roll-Expr}
 use Rattle.star_syntax.specs.declared.expression.Expr.TheOpen.{Expr-F}
 use Rattle.star_syntax.specs.declared.expression.Expr.TheVariants as e
 use Rattle.star_syntax.specs.Spelling.{Tokens, expr_spelling, compare_tokens}
@@ -18,16 +18,16 @@ use Rattle.star_syntax.specs.Levels.{IsLevelled, Fits, rank, layer_rank}
 use Rattle.star_syntax.proofs.Levelled.{Each}
 use Rattle.star_parser.specs.declared.level.Level.{Level}
 use Rattle.star_parser.specs.declared.level.Level.TheVariants as level
-use Rattle.star_parser.specs.Reading.{Input, Outcome, Reader, and_then, ◌>>=◌, ◌>>◌, pure, refuse, next, rest, peek, skip, kinds}
+use Rattle.star_parser.specs.Reading.{Input, Reader, ◌>>=◌, ◌>>◌, pure, next, skip, kinds}
 use Rattle.star_parser.specs.Tables.{compare_op, expect_word, eat_word}
 use Rattle.star_parser.specs.Readers.{compared, compare_by, compare, conditional, test}
-use Rattle.star_parser.specs.Ends.{reach, Ends, level_rank}
-use Rattle.star_parser.proofs.Exact.{Exact, Reads, Refuses, Then, Just, exact_refuse, exact_then, exact_by, exact_same, exact_pure}
+use Rattle.star_parser.specs.Ends.{reach, Ends}
+use Rattle.star_parser.proofs.Exact.{Exact, Then, Just, exact_then, exact_by, exact_same, exact_pure}
 use Rattle.star_parser.proofs.Steps.{Tok, exact_skip, some_token, exact_token_then, exact_last, exact_expect_word, exact_eat_word}
 use Rattle.star_parser.proofs.Words.{exact_word_then}
-use Rattle.star_parser.proofs.Rules.{IsExpr, lower, kinds_split, kinds_cons, kinds_none, kinds_append, next_kind, length_after, length_less, some_is}
+use Rattle.star_parser.proofs.Rules.{IsExpr, lower, kinds_split, kinds_cons, kinds_append, length_after, length_less, some_is}
 use Rattle.star_parser.proofs.Chains.{ReadsBelow, rank_few}
-use Rattle.star_parser.proofs.First.{Node, node_or_higher, made_is, last_there, last_back}
+use Rattle.star_parser.proofs.First.{node_or_higher, made_is, last_there, last_back}
 
 -- ---- the tokens of comparisons
 

@@ -1,5 +1,5 @@
 -- Indices, slices, calls and methods after an atom are read exactly.
-use Rattle.std.proofs.Common.{◌≡◌, ◌≢◌, ◌∙◌, ◌⊎◌, inl, inr, ℕ, zero, suc, ◌+◌, ◌≤◌, ◌<◌, Bool, true, false, List, [], ◌∷◌, ◌++◌, map, Option, Some, None, Result, Ok, Err, refl, sym, ap, subst, arith, rules, append_assoc, length}
+use Rattle.std.proofs.Common.{◌≡◌, ◌≢◌, ◌∙◌, ◌⊎◌, inl, inr, ℕ, zero, suc, ◌+◌, ◌≤◌, ◌<◌, Bool, true, false, List, [], ◌∷◌, ◌++◌, Option, Some, None, Ok, refl, sym, ap, subst, arith, append_assoc, length}
 use Rattle.std.proofs.lemmas.List.{append-nil}
 use Rattle.std.specs.Prelude.{if◌then◌else◌}
 use Rattle.std.specs.List.{flat_map, AllByRecursion}
@@ -11,7 +11,7 @@ use Rattle.star_syntax.specs.declared.token.Spanned.{Spanned}
 use Rattle.star_syntax.specs.declared.expression.Arguments.{Arguments}
 use Rattle.star_syntax.specs.declared.expression.Suffix.{Suffix}
 use Rattle.star_syntax.specs.declared.expression.Suffix.TheVariants.{Index, Slice, Call, Method}
-use Rattle.star_syntax.specs.declared.expression.Expr.{Expr, out-Expr, roll-Expr}
+use Rattle.star_syntax.specs.declared.expression.Expr.{Expr, roll-Expr}
 use Rattle.star_syntax.specs.declared.expression.Expr.TheOpen.{Expr-F}
 use Rattle.star_syntax.specs.declared.expression.Expr.TheVariants as e
 use Rattle.star_syntax.specs.Spelling.{Tokens, expr_spelling}
@@ -20,17 +20,17 @@ use Rattle.star_syntax.specs.Levels.{IsLevelled, Fits, SuffixFits, rank, layer_r
 use Rattle.star_syntax.proofs.Levelled.{Each, EachSuffix, EachOption, EachStep}
 use Rattle.star_parser.specs.declared.level.Level.{Level}
 use Rattle.star_parser.specs.declared.level.Level.TheVariants as level
-use Rattle.star_parser.specs.Reading.{Input, Outcome, Reader, and_then, ◌>>=◌, ◌>>◌, pure, refuse, next, rest, peek, skip, kinds}
-use Rattle.star_parser.specs.Tables.{is_mark, eat, expect, expect_name}
+use Rattle.star_parser.specs.Reading.{Input, Reader, and_then, ◌>>=◌, ◌>>◌, pure, next, skip, kinds}
+use Rattle.star_parser.specs.Tables.{is_mark, eat, expect}
 use Rattle.star_parser.specs.Readers.{bound, slice_after, index_after, index, arguments, method, suffixes_from, primary, with_suffixes, atom}
 use Rattle.star_parser.specs.Starts.{starts}
 use Rattle.star_parser.specs.Ends.{reach, Ends}
-use Rattle.star_parser.proofs.Exact.{Exact, Then, Just, exact_refuse, exact_then, exact_by, exact_same, exact_pure, exact_ends}
+use Rattle.star_parser.proofs.Exact.{Exact, Then, Just, exact_then, exact_by, exact_same, exact_pure}
 use Rattle.star_parser.proofs.Steps.{Tok, some_token, mark_is, is_mark_itself, exact_token_then, exact_expected_then, exact_last, exact_eat, token_next}
 use Rattle.star_parser.proofs.Words.{NameToken, some_name, exact_name_then}
-use Rattle.star_parser.proofs.Closing.{Any, Closed, closed_there, closed_back, some_closed, closed_exact, not_first, token_spelt, token_ends}
-use Rattle.star_parser.proofs.Rules.{IsExpr, lower, kinds_split, kinds_cons, kinds_none, kinds_append, next_kind, length_after, length_less, some_is}
-use Rattle.star_parser.proofs.First.{Node, node_or_higher, made_is, last_there, last_back, first_of}
+use Rattle.star_parser.proofs.Closing.{Any, Closed, closed_there, closed_back, some_closed, not_first, token_spelt, token_ends}
+use Rattle.star_parser.proofs.Rules.{IsExpr, kinds_split, kinds_cons, kinds_none, kinds_append, length_after, some_is}
+use Rattle.star_parser.proofs.First.{node_or_higher, made_is, last_there, last_back}
 use Rattle.star_parser.proofs.Chains.{Below, rank_few}
 use Rattle.star_parser.proofs.Arguments.{IsGiven, some_given, arguments_exact, ending}
 

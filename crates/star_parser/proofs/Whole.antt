@@ -1,11 +1,11 @@
 -- Expressions are read exactly, if the depth is enough.
-use Rattle.std.proofs.Common.{◌≡◌, ℕ, zero, suc, ◌+◌, ◌*◌, ◌-◌, ◌≤◌, ◌<◌, length, refl, arith}
+use Rattle.std.proofs.Common.{ℕ, zero, suc, ◌+◌, ◌*◌, ◌≤◌, ◌<◌, length, refl, arith}
 use Rattle.star_syntax.specs.declared.expression.ChainLevel.TheVariants as chain
 use Rattle.star_syntax.specs.declared.expression.Expr.{Expr}
 use Rattle.star_parser.specs.declared.level.Level.{Level}
 use Rattle.star_parser.specs.declared.level.Level.TheVariants as level
 use Rattle.star_parser.specs.Reading.{Input, Reader}
-use Rattle.star_parser.specs.Readers.{expr, at, atom}
+use Rattle.star_parser.specs.Readers.{expr, atom}
 use Rattle.star_parser.specs.Ends.{Ends, level_rank}
 use Rattle.star_parser.proofs.Exact.{Exact}
 use Rattle.star_parser.proofs.Rules.{IsExpr}
