@@ -31,12 +31,15 @@ use Rattle.star_parser.proofs.Rules.{IsExpr, kinds_split, kinds_cons, kinds_appe
 use Rattle.star_parser.proofs.First.{first_of}
 use Rattle.star_parser.proofs.Chains.{Below}
 
+-- the bracket that ends arguments
 abbrev close : Token
 close = t.Mark m.CloseRound
 
+-- the mark between a name and its value
 abbrev assign : Token
 assign = t.Mark m.Assign
 
+-- `name = value`
 abbrev named_as : List ℕ → Expr → Named Expr
 named_as name value = record { name = name; value = value }
 
@@ -79,9 +82,11 @@ name_spelt x name c is r = r.spelt ∙ ap expr_spelling is ∙ spells-Name name
 
 -- ---- named arguments
 
+-- each value is levelled
 abbrev NamedLevelled : List (Named Expr) → Type 0
 NamedLevelled = AllByRecursion (λ named. IsLevelled named.value)
 
+-- what each spells
 abbrev phrases : List (Named Expr) → List Tokens
 phrases = map default_spelling
 
@@ -99,9 +104,11 @@ pub record AreNamed (positional : List Expr) (found : List (Named Expr)) (name :
 abbrev NamedMore : List Expr → List (Named Expr) → Arguments Expr → Input → Type 0
 NamedMore positional found = Then NameToken (λ name. Then (Tok assign) (λ _. AreNamed positional found name))
 
+-- what follows a value
 abbrev NamedTail : List Expr → List (Named Expr) → Arguments Expr → Input → Type 0
 NamedTail positional found = Tail m.CloseRound (arguments_of positional found false) (arguments_of positional found true) (NamedMore positional found)
 
+-- a value and what follows it
 abbrev NamedWhole : List Expr → List (Named Expr) → List ℕ → Arguments Expr → Input → Type 0
 NamedWhole positional found name = Then (IsExpr 0) (λ value. NamedTail positional (found ++ named_as name value ∷ []))
 
@@ -253,6 +260,7 @@ pub record AreArguments (found : List Expr) (all : Arguments Expr) (c : Input) :
   pub named_levelled : NamedLevelled named
   pub spelt : kinds c ≡ listed_arguments positional named ++ ending written
 
+-- what follows a positional argument
 abbrev PositionalTail : List Expr → Arguments Expr → Input → Type 0
 PositionalTail found = Tail m.CloseRound (arguments_of found [] false) (arguments_of found [] true) (AreArguments found)
 
@@ -264,6 +272,7 @@ NamedFrom found name = Then (Tok assign) (λ _. AreNamed found [] name)
 abbrev ArgumentTail : List Expr → Expr → Arguments Expr → Input → Type 0
 ArgumentTail found item all c = PositionalTail (found ++ item ∷ []) all c ⊎ ((name : List ℕ) × (item ≡ e.Name name) × NamedFrom found name all c)
 
+-- an argument and what follows it
 abbrev ArgumentsWhole : List Expr → Arguments Expr → Input → Type 0
 ArgumentsWhole found = Then (IsExpr 0) (ArgumentTail found)
 
@@ -456,6 +465,7 @@ pub record IsGiven (given : Arguments Expr) (c : Input) : Type 0 where
   pub levelled : EachArgument IsLevelled given
   pub spelt : kinds c ≡ listed_arguments given.positional given.named ++ ending given.comma
 
+-- the bracket at once, or arguments
 abbrev Given : Arguments Expr → Input → Type 0
 Given given c = Closed close (arguments_of [] [] false) given c ⊎ AreArguments [] given c
 
@@ -485,10 +495,12 @@ given_of (x ∷ xs) named written c h =
 given_back : (given : Arguments Expr) (c : Input) → IsGiven given c → Given given c
 given_back given c h = given_of given.positional given.named given.comma c h
 
+-- there are some
 pub some_given : (given : Arguments Expr) × (c : Input) × IsGiven given c
 some_given = let (y, c, q) = some_closed close (arguments_of [] [] false) in (y, c, given_there y c (inl q))
 
 module _ (expr : Level → Reader Expr) (bound : ℕ) (below : Below expr bound) where
+  -- arguments are read exactly, if expressions of fewer tokens are
   pub arguments_exact : (ts : Input) → length ts < bound → Exact IsGiven Any ts (arguments expr ts)
   unfolding arguments
   arguments_exact ts few =

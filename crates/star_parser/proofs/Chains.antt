@@ -64,6 +64,7 @@ token_of_op (Some (t.Mark m.FloorDivide)) o h = its_token (op.Binary binary.Floo
 token_of_op (Some (t.Mark m.Percent)) o h = its_token (op.Binary binary.Mod) o h
 token_of_op _ o h = absurd cc
 
+-- a token is that of one operator alone
 pub chain_token_one : (o p : ChainOp) → chain_token o ≡ chain_token p → o ≡ p
 chain_token_one o p h = let a = op_of_token o in let b = op_of_token p in let c : token_op (Some (chain_token o)) ≡ token_op (Some (chain_token p)) = ap (λ k. token_op (Some k)) h in cc
 
@@ -75,10 +76,12 @@ chosen_level : (l : ChainLevel) (q : Option ChainOp) (o : ChainOp) → of_level 
 chosen_level l None o h = absurd cc
 chosen_level l (Some q) o h = let (a, b) = chosen l q o (sameb level_type (op_level q) l) refl h in (ap Some a, subst (λ x. op_level x ≡ l) a b)
 
+-- the operator that a token is has this token and is of the level
 pub chain_op_is : (l : ChainLevel) (k : Option Token) (o : ChainOp) → chain_op l k ≡ Some o → (k ≡ Some (chain_token o)) × (op_level o ≡ l)
 unfolding chain_op
 chain_op_is l k o h = let (a, b) = chosen_level l (token_op k) o h in (token_of_op k o a, b)
 
+-- the token of an operator of the level is that operator
 pub is_chain_op : (l : ChainLevel) (o : ChainOp) → op_level o ≡ l → chain_op l (Some (chain_token o)) ≡ Some o
 unfolding chain_op
 is_chain_op l o h = rw (op_of_token o, true_same level_type (op_level o) l h) refl
@@ -386,6 +389,7 @@ whole_back l x c r = elim (dec_lt (chain_rank l) (rank x)) [
     with_some (y ∷ ys) some first = refl
 
 module _ (expr : Level → Reader Expr) (bound : ℕ) (l : ChainLevel) (inner : Level) (deeper : level_rank inner ≡ chain_rank l + 1) (reads : ReadsBelow expr bound inner) where
+  -- the expressions of the level of a chain are read exactly, if those of the next level are
   pub chained_exact : (ts : Input) → length ts ≤ bound → Exact (IsExpr (chain_rank l)) (Ends (chain_rank l)) ts (chained expr l inner ts)
   unfolding chained
   chained_exact ts few =

@@ -24,6 +24,7 @@ Any more = Unit {0}
 abbrev pub Closed : {T : Type 0} → Token → T → T → Input → Type 0
 Closed k x = Then (Tok k) (λ _. Just x)
 
+-- what it spells, and what spells it
 pub closed_there : {T : Type 0} (k : Token) (x y : T) (c : Input) → Closed k x y c → (y ≡ x) × (kinds c ≡ k ∷ [])
 closed_there k x y c (u, c1, c2, (s, is, one), (y_is, none), split) =
     (y_is, ap kinds (split ∙ ap (λ v. v ++ c2) one ∙ ap (λ v. s ∷ v) none) ∙ ap (λ v. v ∷ []) is)
@@ -33,9 +34,11 @@ closed_back k x y c is spelt =
     let (s, c', split, is1, none) = kinds_cons c k [] spelt in
     (tt, s ∷ [], c', (s, is1, refl), (is, kinds_none c' none), split)
 
+-- there is one
 pub some_closed : {T : Type 0} (k : Token) (x : T) → (y : T) × (c : Input) × Closed k x y c
 some_closed k x = let s = some_token k in (x, s ∷ [], closed_back k x x (s ∷ []) refl refl)
 
+-- it is read exactly, where its token comes next
 pub closed_exact : {T : Type 0} (k : Token) (x : T) (ts : Input) → next ts ≡ Some k → Exact (Closed k x) Any ts ((skip >> pure x) ts)
 closed_exact k x ts here = exact_token_then k (Just x) Any (x, [], (refl, refl)) ts (pure x) (λ left _. exact_pure x Any left) here
 
@@ -58,6 +61,7 @@ not_first k none r x c more h e =
 
 -- ---- after an item of a list in brackets
 
+-- the mark between two items
 abbrev pub comma : Token
 comma = t.Mark m.Comma
 
@@ -69,9 +73,11 @@ AfterComma close b R x c = Closed (t.Mark close) b x c ⊎ R x c
 abbrev pub Tail : {T : Type 0} → Mark → T → T → (T → Input → Type 0) → T → Input → Type 0
 Tail close a b R x c = Closed (t.Mark close) a x c ⊎ Then (Tok comma) (λ _. AfterComma close b R) x c
 
+-- there is one
 pub some_tail : {T : Type 0} (close : Mark) (a b : T) (R : T → Input → Type 0) → (x : T) × (c : Input) × Tail close a b R x c
 some_tail close a b R = let (y, c, q) = some_closed (t.Mark close) a in (y, c, inl q)
 
+-- an expression ends before it
 pub tail_ends : {T : Type 0} (close : Mark) → reach (Some (t.Mark close)) ≡ 0 → (a b : T) (R : T → Input → Type 0) (x : T) (c more : Input) → Tail close a b R x c → Ends 0 (c ++ more)
 tail_ends close ends a b R x c more (inl j) = token_ends (t.Mark close) ends (Just a) x c more j
 tail_ends close ends a b R x c more (inr j) = token_ends comma refl (AfterComma close b R) x c more j
@@ -95,6 +101,7 @@ module _ {T : Type 0} (close : Mark) (apart : close ≢ m.Comma) (a b : T) (R : 
       (λ x c more rule _ look. elim rule [ inl j ↦ absurd (other (sym look ∙ token_next (t.Mark close) (Just b) x c more j)) | inr r ↦ r ])
       _ (later left less))
 
+  -- it is read exactly, if what follows a comma is
   pub tail_exact : Exact (Tail close a b R) Any ts (and_then (eat close ts) (λ ended. if ended then pure a else
       (expect m.Comma >>= λ _. eat close >>= λ closed. if closed then pure b else p)))
   tail_exact =

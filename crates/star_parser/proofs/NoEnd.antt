@@ -60,6 +60,7 @@ Without q = AllByRecursion (λ k. k ≢ q)
 
 -- ---- lists
 
+-- what holds of the elements of two lists, and of the images of elements
 pub all_joined : {A : Type 0} (P : A → Type 0) (a b : List A) → AllByRecursion P a → AllByRecursion P b → AllByRecursion P (a ++ b)
 all_joined P [] b x y = y
 all_joined P (k ∷ a) b x y = (x.0, all_joined P a b x.1 y)
@@ -68,6 +69,7 @@ pub all_mapped : {A B : Type 0} (P : A → Type 0) (Q : B → Type 0) (f : A →
 all_mapped P Q f each [] h = tt
 all_mapped P Q f each (x ∷ xs) h = (each x h.0, all_mapped P Q f each xs h.1)
 
+-- lists of tokens that stand in expressions
 pub joined : (a b : Tokens) → Within a → Within b → Within (a ++ b)
 joined a b x y = all_joined (λ k. within k ≡ true) a b x y
 
@@ -202,6 +204,7 @@ node (Expr-F.Conditional value condition other) h = joined (expr_spelling value)
 
 -- ---- whole expressions
 
+-- each token of an expression, of expressions and of expressions with commas between stands in some expression
 pub expr_within : (x : Expr) → Within (expr_spelling x)
 unfolding Clean
 expr_within = induct Clean (λ d each. subst Within (sym (spells_parts d)) (node d each))
@@ -217,6 +220,7 @@ tests_within xs = listed_within (map expr_spelling xs) (exprs_within xs)
 pub not_within : (q k : Token) → within q ≡ false → within k ≡ true → k ≢ q
 not_within q k out held is = let a : within k ≡ within q = ap within is in let b : true ≡ false = sym held ∙ a ∙ out in cc
 
+-- so it is none of the tokens that stand in no expression
 pub without : (q : Token) → within q ≡ false → (ts : Tokens) → Within ts → Without q ts
 without q out [] h = tt
 without q out (k ∷ ts) h = (not_within q k out h.0, without q out ts h.1)

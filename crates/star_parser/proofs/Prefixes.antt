@@ -62,11 +62,13 @@ primary_unsigned x c more h =
     let (s, c', is, high) = first_of 11 x c h in
     ap (λ v. sign_of (next (v ++ more))) is ∙ no_sign_by s.token (sign_of (Some s.token)) refl high
 
+-- what was found, and after it signs that the tokens spell
 pub record AreSigns (found all : List UnaryOp) (c : Input) : Type 0 where
   pub signs : List UnaryOp
   pub whole : all ≡ found ++ signs
   pub spelt : kinds c ≡ map sign_token signs
 
+-- a sign, and more after it
 abbrev Signed : List UnaryOp → UnaryOp → List UnaryOp → Input → Type 0
 Signed found o = Then (Tok (sign_token o)) (λ _. AreSigns (found ++ o ∷ []))
 
@@ -111,6 +113,7 @@ signs_exact zero found [] few = sign_step (λ _. pure []) found [] (λ f left le
 signs_exact zero found (s ∷ ts) few = absurd (omega arith)
 signs_exact (suc n) found ts few = sign_step (signs_from n) found ts (λ f left less. signs_exact n f left (omega arith)) (sign_of (next ts)) refl
 
+-- signs, perhaps none, and the operand
 abbrev Unary : Expr → Input → Type 0
 Unary = Then (AreSigns []) (λ signs. Then (IsExpr 11) (λ operand. Just (with_signs signs operand)))
 
@@ -150,6 +153,7 @@ unary_back x c h = elim (node_or_higher 10 x c h) [
 ]
 
 module _ (expr : Level → Reader Expr) (bound : ℕ) (primaries : ReadsBelow expr bound level.Primary) where
+  -- signs and their operand are read exactly, if primaries are
   pub unary_exact : (ts : Input) → length ts ≤ bound → Exact (IsExpr 10) (Ends 10) ts (unary expr ts)
   unfolding unary Ends
   unary_exact ts few = exact_same Unary (IsExpr 10) (Ends 10) unary_there unary_back ts _
@@ -162,6 +166,7 @@ module _ (expr : Level → Reader Expr) (bound : ℕ) (primaries : ReadsBelow ex
 
 -- ---- `not`
 
+-- no `not` comes next
 abbrev NoNot : Input → Type 0
 NoNot more = next more ≢ Some (t.Word w.Not)
 
@@ -171,6 +176,7 @@ pub record AreNots (count all : ℕ) (c : Input) : Type 0 where
   pub whole : all ≡ count + nots
   pub spelt : kinds c ≡ replicate nots (t.Word w.Not)
 
+-- a `not`, and more after it
 abbrev OneMore : ℕ → ℕ → Input → Type 0
 OneMore count = Then (Tok (t.Word w.Not)) (λ _. AreNots (count + 1))
 
@@ -208,6 +214,7 @@ nots_exact (suc n) count ts few =
     (λ other. exact_by (Just count) (AreNots count) NoNot ts (no_more_there count)
     (λ all c more h ends look. no_more_by count all c more h.nots h.whole h.spelt (λ a. other (sym look ∙ a))) _ (exact_pure count NoNot ts))
 
+-- `not` any number of times, and the operand
 abbrev Negated : Expr → Input → Type 0
 Negated = Then (AreNots 0) (λ count. Then (IsExpr 4) (λ operand. Just (with_nots count operand)))
 
@@ -245,6 +252,7 @@ negated_back x c h = elim (node_or_higher 3 x c h) [
 ]
 
 module _ (expr : Level → Reader Expr) (bound : ℕ) (comparisons : ReadsBelow expr bound level.Compare) where
+  -- `not` and its operand are read exactly, if comparisons are
   pub negated_exact : (ts : Input) → length ts ≤ bound → Exact (IsExpr 3) (Ends 3) ts (negated expr ts)
   unfolding negated Ends
   negated_exact ts few = exact_same Negated (IsExpr 3) (Ends 3) negated_there negated_back ts _

@@ -34,9 +34,11 @@ use Rattle.star_parser.proofs.First.{node_or_higher, made_is, last_there, last_b
 use Rattle.star_parser.proofs.Chains.{Below, rank_few}
 use Rattle.star_parser.proofs.Arguments.{IsGiven, some_given, arguments_exact, ending}
 
+-- the mark between the bounds of a slice
 abbrev colon : Token
 colon = t.Mark m.Colon
 
+-- the bracket that ends an index or a slice
 abbrev square : Token
 square = t.Mark m.CloseSquare
 
@@ -78,6 +80,7 @@ OpensWith k x c = IsSuffix x c × (opening x ≡ k)
 
 -- ---- what may be left out in a slice
 
+-- nothing, or an expression
 abbrev IsBound : Option Expr → Input → Type 0
 IsBound None c = c ≡ []
 IsBound (Some x) c = IsExpr 0 x c
@@ -90,10 +93,11 @@ bound_back : (b : Option Expr) (c : Input) → EachOption IsLevelled b → kinds
 bound_back None c levelled spelt = kinds_none c spelt
 bound_back (Some x) c levelled spelt = record { levelled = levelled; high = omega arith; spelt = spelt }
 
--- what follows a bound, and what follows the last one
+-- what follows a bound
 abbrev BoundEnds : Input → Type 0
 BoundEnds more = (next more ≡ Some colon) ⊎ (next more ≡ Some square)
 
+-- what follows the last one
 abbrev LastEnds : Input → Type 0
 LastEnds more = next more ≡ Some square
 
@@ -153,6 +157,7 @@ bound_by expr ts reads false false is_colon is_square =
 abbrev Stepped : Option Expr → Option Expr → Suffix Expr → Input → Type 0
 Stepped start stop = Then IsBound (λ step. Closed square (Slice start stop (Some step)))
 
+-- after the upper bound
 abbrev SliceRest : Option Expr → Option Expr → Suffix Expr → Input → Type 0
 SliceRest start stop x c = Then (Tok colon) (λ _. Stepped start stop) x c ⊎ Closed square (Slice start stop None) x c
 
@@ -226,6 +231,7 @@ some_sliced start = let (y, d, q) = some_closed square (Slice start None None) i
 abbrev IndexRest : Expr → Suffix Expr → Input → Type 0
 IndexRest at x c = Then (Tok colon) (λ _. Sliced (Some at)) x c ⊎ Closed square (Index at) x c
 
+-- after `[`
 abbrev InSquare : Suffix Expr → Input → Type 0
 InSquare x c = Then (Tok colon) (λ _. Sliced None) x c ⊎ Then (IsExpr 0) IndexRest x c
 
@@ -283,9 +289,7 @@ some_square =
 
 -- ---- calls and methods
 
-abbrev CallOf : Suffix Expr → Input → Type 0
-CallOf = Then IsGiven (λ given. Just (Call given))
-
+-- after `.`
 abbrev MethodOf : Suffix Expr → Input → Type 0
 MethodOf = Then NameToken (λ name. Then (Tok (t.Mark m.OpenRound)) (λ _. Then IsGiven (λ given. Just (Method name given))))
 
@@ -337,10 +341,12 @@ some_method =
 
 -- ---- one suffix after another
 
+-- what it holds is levelled and has commas where it may
 pub record SuffixGood (x : Suffix Expr) : Type 0 where
   pub fits : SuffixFits x
   pub levelled : EachSuffix IsLevelled x
 
+-- what was found, and after it suffixes that the tokens spell
 pub record AreSuffixes (found all : List (Suffix Expr)) (c : Input) : Type 0 where
   pub suffixes : List (Suffix Expr)
   pub whole : all ≡ found ++ suffixes
@@ -559,6 +565,7 @@ module _ (expr : Level → Reader Expr) (size : ℕ) (below : Below expr size) w
 
 -- ---- a primary
 
+-- an atom and its suffixes, perhaps none
 abbrev IsPrimary : Expr → Input → Type 0
 IsPrimary = Then (IsExpr 12) (λ head. Then (AreSuffixes []) (λ found. Just (with_suffixes head found)))
 
@@ -608,6 +615,7 @@ primary_back x c h = elim (node_or_higher 11 x c h) [
 ]
 
 module _ (expr : Level → Reader Expr) (size : ℕ) (below : Below expr size) (atoms : (ts : Input) → length ts ≤ size → Exact (IsExpr 12) Any ts (atom expr ts)) where
+  -- primaries are read exactly, if atoms are, and expressions of fewer tokens
   pub primary_exact : (ts : Input) → length ts ≤ size → Exact (IsExpr 11) (Ends 11) ts (primary expr ts)
   unfolding primary
   primary_exact ts few = exact_same IsPrimary (IsExpr 11) (Ends 11) primary_there primary_back ts _
