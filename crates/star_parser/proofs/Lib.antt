@@ -3,6 +3,8 @@ pub mod Rules
 pub mod Steps
 pub mod Turns
 pub mod First
+pub mod Bracketed
+pub mod Clauses
 pub mod Words
 pub mod Closing
 pub mod Chains
