@@ -26,7 +26,8 @@ use Rattle.star_parser.specs.Ends.{Ends}
 use Rattle.star_parser.proofs.Exact.{Exact, Then, Just, exact_refuse, exact_then, exact_by, exact_same}
 use Rattle.star_parser.proofs.Steps.{Tok, some_token, exact_token_then, exact_expected_then, exact_eat, token_next}
 use Rattle.star_parser.proofs.Words.{NameToken, exact_name_then}
-use Rattle.star_parser.proofs.Closing.{Any, Closed, closed_there, closed_back, some_closed, closed_exact, comma, Tail, some_tail, tail_ends, tail_next, tail_exact, not_first, token_spelt, token_ends}
+use Rattle.star_parser.proofs.Bracketed.{Any, comma, Closes, closes_there, closes_back, some_closes, closes_exact, not_first}
+use Rattle.star_parser.proofs.Closing.{Tail, some_tail, tail_ends, tail_next, tail_exact, token_spelt, token_ends}
 use Rattle.star_parser.proofs.Rules.{IsExpr, kinds_split, kinds_cons, kinds_append, length_after, some_is}
 use Rattle.star_parser.proofs.First.{first_of}
 use Rattle.star_parser.proofs.Chains.{Below}
@@ -119,10 +120,10 @@ spelt_after x c c1 c2 later r split is = ap kinds split ∙ kinds_append c1 c2 �
 named_there : (positional : List Expr) (found : List (Named Expr)) (name : List ℕ) (all : Arguments Expr) (c : Input)
     → NamedWhole positional found name all c → AreNamed positional found name all c
 named_there positional found name all c (x, c1, c2, r, inl closed, split) =
-    let (is, spelt) = closed_there close (arguments_of positional (found ++ named_as name x ∷ []) false) all c2 closed in
+    let (is, spelt) = closes_there m.CloseRound (arguments_of positional (found ++ named_as name x ∷ []) false) all c2 closed in
     record { value = x; others = []; written = false; whole = is; levelled = r.levelled; others_levelled = tt; spelt = spelt_after x c c1 c2 (close ∷ []) r split spelt }
 named_there positional found name all c (x, c1, c2, r, inr (u, c3, c4, (s, s_is, one), inl closed, split2), split) =
-    let (is, spelt) = closed_there close (arguments_of positional (found ++ named_as name x ∷ []) true) all c4 closed in
+    let (is, spelt) = closes_there m.CloseRound (arguments_of positional (found ++ named_as name x ∷ []) true) all c4 closed in
     record {
       value = x;
       others = [];
@@ -154,11 +155,11 @@ named_by : (positional : List Expr) (found : List (Named Expr)) (name : List ℕ
     → kinds c ≡ expr_spelling x ++ (commas (phrases others) ++ ending written) → NamedWhole positional found name all c
 named_by positional found name all c x [] false is levelled others_levelled spelt =
     let (c1, c2, split, is1, is2) = kinds_split c (expr_spelling x) (close ∷ []) spelt in
-    (x, c1, c2, record { levelled = levelled; high = omega arith; spelt = is1 }, inl (closed_back close _ all c2 is is2), split)
+    (x, c1, c2, record { levelled = levelled; high = omega arith; spelt = is1 }, inl (closes_back m.CloseRound _ all c2 is is2), split)
 named_by positional found name all c x [] true is levelled others_levelled spelt =
     let (c1, c2, split, is1, is2) = kinds_split c (expr_spelling x) (comma ∷ close ∷ []) spelt in
     let (s, c3, split2, is3, is4) = kinds_cons c2 comma (close ∷ []) is2 in
-    (x, c1, c2, record { levelled = levelled; high = omega arith; spelt = is1 }, inr (tt, s ∷ [], c3, (s, is3, refl), inl (closed_back close _ all c3 is is4), split2), split)
+    (x, c1, c2, record { levelled = levelled; high = omega arith; spelt = is1 }, inr (tt, s ∷ [], c3, (s, is3, refl), inl (closes_back m.CloseRound _ all c3 is is4), split2), split)
 named_by positional found name all c x (y ∷ ys) written is levelled others_levelled spelt =
     let later : Tokens = expr_spelling y.value ++ (commas (phrases ys) ++ ending written) in
     let (c1, c2, split, is1, is2) = kinds_split c (expr_spelling x) (comma ∷ t.Name y.name ∷ assign ∷ later)
@@ -190,13 +191,13 @@ named_back positional found name all c h = named_by positional found name all c 
 some_named : (positional : List Expr) (found : List (Named Expr)) (name : List ℕ) → (all : Arguments Expr) × (c : Input) × AreNamed positional found name all c
 some_named positional found name =
     let (x, c, r) = some_is 0 (omega arith) in
-    let (y, d, q) = some_closed close (arguments_of positional (found ++ named_as name x ∷ []) false) in
+    let (y, d, q) = some_closes m.CloseRound (arguments_of positional (found ++ named_as name x ∷ []) false) in
     (y, c ++ d, named_there positional found name y (c ++ d) (x, c, d, r, inl q, refl))
 
 -- no rule that begins with an expression begins with this token
 expr_not_first : {T : Type 0} (k : Token) → starts k ≡ 0 → (RT : Expr → T → Input → Type 0) (x : T) (c more : Input) → Then (IsExpr 0) RT x c → next (c ++ more) ≢ Some k
 expr_not_first k none RT x c more (y, c1, c2, r, later, split) is =
-    not_first k none 0 y c1 (c2 ++ more) r (ap next (sym (append_assoc c1 c2 more) ∙ ap (λ v. v ++ more) (sym split)) ∙ is)
+    not_first k none c1 (c2 ++ more) (first_of 0 y c1 r) (ap next (sym (append_assoc c1 c2 more) ∙ ap (λ v. v ++ more) (sym split)) ∙ is)
 
 -- where nothing is left no expression begins
 expr_not_none : {T : Type 0} (RT : Expr → T → Input → Type 0) (x : T) (c more : Input) → Then (IsExpr 0) RT x c → next (c ++ more) ≢ None
@@ -278,7 +279,7 @@ ArgumentsWhole found = Then (IsExpr 0) (ArgumentTail found)
 
 arguments_there : (found : List Expr) (all : Arguments Expr) (c : Input) → ArgumentsWhole found all c → AreArguments found all c
 arguments_there found all c (x, c1, c2, r, inl (inl closed), split) =
-    let (is, spelt) = closed_there close (arguments_of (found ++ x ∷ []) [] false) all c2 closed in
+    let (is, spelt) = closes_there m.CloseRound (arguments_of (found ++ x ∷ []) [] false) all c2 closed in
     record {
       positional = x ∷ [];
       named = [];
@@ -290,7 +291,7 @@ arguments_there found all c (x, c1, c2, r, inl (inl closed), split) =
       spelt = spelt_after x c c1 c2 (close ∷ []) r split spelt ∙ ap (λ v. v ++ close ∷ []) (sym (append-nil (expr_spelling x)));
     }
 arguments_there found all c (x, c1, c2, r, inl (inr (u, c3, c4, (s, s_is, one), inl closed, split2)), split) =
-    let (is, spelt) = closed_there close (arguments_of (found ++ x ∷ []) [] true) all c4 closed in
+    let (is, spelt) = closes_there m.CloseRound (arguments_of (found ++ x ∷ []) [] true) all c4 closed in
     record {
       positional = x ∷ [];
       named = [];
@@ -372,11 +373,11 @@ arguments_by found all c [] (y ∷ ys) written is some levelled named_levelled s
     (e.Name y.name, s ∷ [], c2, name_is (e.Name y.name) y.name (s ∷ []) refl (ap (λ v. v ∷ []) is1), inr (y.name, refl, (tt, s2 ∷ [], c3, (s2, is3, refl), more, split2)), split)
 arguments_by found all c (x ∷ []) [] false is some levelled named_levelled spelt =
     let (c1, c2, split, is1, is2) = kinds_split c (expr_spelling x) (close ∷ []) (spelt ∙ ap (λ v. v ++ close ∷ []) (append-nil (expr_spelling x))) in
-    (x, c1, c2, record { levelled = levelled.0; high = omega arith; spelt = is1 }, inl (inl (closed_back close _ all c2 is is2)), split)
+    (x, c1, c2, record { levelled = levelled.0; high = omega arith; spelt = is1 }, inl (inl (closes_back m.CloseRound _ all c2 is is2)), split)
 arguments_by found all c (x ∷ []) [] true is some levelled named_levelled spelt =
     let (c1, c2, split, is1, is2) = kinds_split c (expr_spelling x) (comma ∷ close ∷ []) (spelt ∙ ap (λ v. v ++ comma ∷ close ∷ []) (append-nil (expr_spelling x))) in
     let (s, c3, split2, is3, is4) = kinds_cons c2 comma (close ∷ []) is2 in
-    (x, c1, c2, record { levelled = levelled.0; high = omega arith; spelt = is1 }, inl (inr (tt, s ∷ [], c3, (s, is3, refl), inl (closed_back close _ all c3 is is4), split2)), split)
+    (x, c1, c2, record { levelled = levelled.0; high = omega arith; spelt = is1 }, inl (inr (tt, s ∷ [], c3, (s, is3, refl), inl (closes_back m.CloseRound _ all c3 is is4), split2)), split)
 arguments_by found all c (x ∷ []) (y ∷ ys) written is some levelled named_levelled spelt =
     several_by found all c x [] (y ∷ ys) written is (λ none. cc) levelled.0 levelled.1 named_levelled spelt
 arguments_by found all c (x ∷ z ∷ zs) named written is some levelled named_levelled spelt =
@@ -391,7 +392,7 @@ arguments_not_first found all c more h look = expr_not_first close refl (Argumen
 some_arguments : (found : List Expr) → (all : Arguments Expr) × (c : Input) × AreArguments found all c
 some_arguments found =
     let (x, c, r) = some_is 0 (omega arith) in
-    let (y, d, q) = some_closed close (arguments_of (found ++ x ∷ []) [] false) in
+    let (y, d, q) = some_closes m.CloseRound (arguments_of (found ++ x ∷ []) [] false) in
     (y, c ++ d, arguments_there found y (c ++ d) (x, c, d, r, inl (inl q), refl))
 
 argument_ends : (found : List Expr) (item : Expr) (all : Arguments Expr) (c more : Input) → ArgumentTail found item all c → Ends 0 (c ++ more)
@@ -451,7 +452,7 @@ module _ (expr : Level → Reader Expr) (bound : ℕ) (below : Below expr bound)
       exact_same (ArgumentsWhole found) (AreArguments found) Any (arguments_there found) (arguments_back found) ts _
       (exact_then (IsExpr 0) (ArgumentTail found) (Ends 0) Any
       (λ item all c1 c2 more _ tail _. argument_ends found item all c2 more tail)
-      (λ item c r. let (y, d, q) = some_closed close (arguments_of (found ++ item ∷ []) [] false) in (y, d, inl (inl q)))
+      (λ item c r. let (y, d, q) = some_closes m.CloseRound (arguments_of (found ++ item ∷ []) [] false) in (y, d, inl (inl q)))
       ts (expr level.Test ts) (λ item. argument_by expr n found item (arguments_from expr n) (name_of item)) (below level.Test ts small)
       (λ item left taken split r. let a = length_after ts taken left split in
       argument_exact n found item (arguments_from expr n) left (omega arith) (omega arith)
@@ -467,7 +468,7 @@ pub record IsGiven (given : Arguments Expr) (c : Input) : Type 0 where
 
 -- the bracket at once, or arguments
 abbrev Given : Arguments Expr → Input → Type 0
-Given given c = Closed close (arguments_of [] [] false) given c ⊎ AreArguments [] given c
+Given given c = Closes m.CloseRound (arguments_of [] [] false) given c ⊎ AreArguments [] given c
 
 given_by : (positional : List Expr) (named : List (Named Expr)) (written : Bool) → map expr_spelling positional ++ phrases named ≢ [] → ArgumentsFit (arguments_of positional named written)
 given_by [] [] written some = absurd (some refl)
@@ -476,7 +477,7 @@ given_by (x ∷ xs) named written some = tt
 
 given_there : (given : Arguments Expr) (c : Input) → Given given c → IsGiven given c
 given_there given c (inl closed) =
-    let (is, spelt) = closed_there close (arguments_of [] [] false) given c closed in
+    let (is, spelt) = closes_there m.CloseRound (arguments_of [] [] false) given c closed in
     let whole : IsGiven (arguments_of [] [] false) c = record { fits = refl; levelled = (tt, tt); spelt = spelt } in
     subst (λ v. IsGiven v c) (sym is) whole
 given_there given c (inr h) =
@@ -486,7 +487,7 @@ given_there given c (inr h) =
 
 given_of : (positional : List Expr) (named : List (Named Expr)) (written : Bool) (c : Input) → IsGiven (arguments_of positional named written) c → Given (arguments_of positional named written) c
 given_of [] [] true c h = absurd (let f : true ≡ false = h.fits in cc)
-given_of [] [] false c h = inl (closed_back close (arguments_of [] [] false) (arguments_of [] [] false) c refl h.spelt)
+given_of [] [] false c h = inl (closes_back m.CloseRound (arguments_of [] [] false) (arguments_of [] [] false) c refl h.spelt)
 given_of [] (y ∷ ys) written c h =
     inr (record { positional = []; named = y ∷ ys; written = written; whole = refl; some = λ none. cc; levelled = tt; named_levelled = h.levelled.1; spelt = h.spelt })
 given_of (x ∷ xs) named written c h =
@@ -497,7 +498,7 @@ given_back given c h = given_of given.positional given.named given.comma c h
 
 -- there are some
 pub some_given : (given : Arguments Expr) × (c : Input) × IsGiven given c
-some_given = let (y, c, q) = some_closed close (arguments_of [] [] false) in (y, c, given_there y c (inl q))
+some_given = let (y, c, q) = some_closes m.CloseRound (arguments_of [] [] false) in (y, c, given_there y c (inl q))
 
 module _ (expr : Level → Reader Expr) (bound : ℕ) (below : Below expr bound) where
   -- arguments are read exactly, if expressions of fewer tokens are
@@ -506,9 +507,9 @@ module _ (expr : Level → Reader Expr) (bound : ℕ) (below : Below expr bound)
   arguments_exact ts few =
       exact_same Given IsGiven Any given_there given_back ts _
       (exact_eat Given Any (pure (arguments_of [] [] false)) (λ ts. arguments_from expr (length ts) [] ts) ts m.CloseRound
-      (λ here. exact_by (Closed close (arguments_of [] [] false)) Given Any ts (λ given c j. inl j)
+      (λ here. exact_by (Closes m.CloseRound (arguments_of [] [] false)) Given Any ts (λ given c j. inl j)
       (λ given c more rule _ look. elim rule [ inl j ↦ j | inr h ↦ absurd (arguments_not_first [] given c more h (look ∙ here)) ])
-      _ (closed_exact close (arguments_of [] [] false) ts here))
+      _ (closes_exact m.CloseRound (arguments_of [] [] false) ts here))
       (λ other. exact_by (AreArguments []) Given Any ts (λ given c j. inr j)
       (λ given c more rule _ look. elim rule [ inl j ↦ absurd (other (sym look ∙ token_next close (Just (arguments_of [] [] false)) given c more j)) | inr h ↦ h ])
       _ (arguments_from_exact expr bound below (length ts) [] ts (omega arith) few)))

@@ -13,7 +13,7 @@ use Rattle.star_parser.proofs.Chains.{chained_exact, Below}
 use Rattle.star_parser.proofs.Operators.{compare_exact, test_exact}
 use Rattle.star_parser.proofs.Prefixes.{unary_exact, negated_exact}
 use Rattle.star_parser.proofs.Suffixes.{primary_exact}
-use Rattle.star_parser.proofs.Closing.{Any}
+use Rattle.star_parser.proofs.Bracketed.{Any}
 
 -- atoms are read exactly, where expressions of each level are from fewer tokens
 atom_exact : (expr : Level → Reader Expr) (bound : ℕ) → Below expr bound → (ts : Input) → length ts ≤ bound → Exact (IsExpr 12) Any ts (atom expr ts)
