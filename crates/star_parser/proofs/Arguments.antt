@@ -26,11 +26,10 @@ use Rattle.star_parser.specs.Ends.{Ends}
 use Rattle.star_parser.proofs.Exact.{Exact, Then, Just, exact_refuse, exact_then, exact_by, exact_same}
 use Rattle.star_parser.proofs.Steps.{Tok, some_token, exact_token_then, exact_expected_then, exact_eat, token_next}
 use Rattle.star_parser.proofs.Words.{NameToken, exact_name_then}
-use Rattle.star_parser.proofs.Bracketed.{Any, comma, Closes, closes_there, closes_back, some_closes, closes_exact, not_first}
+use Rattle.star_parser.proofs.Bracketed.{Any, Inside, comma, Closes, closes_there, closes_back, some_closes, closes_exact, not_first}
 use Rattle.star_parser.proofs.Closing.{Tail, some_tail, tail_ends, tail_next, tail_exact, token_spelt, token_ends}
 use Rattle.star_parser.proofs.Rules.{IsExpr, kinds_split, kinds_cons, kinds_append, length_after, some_is}
 use Rattle.star_parser.proofs.First.{first_of}
-use Rattle.star_parser.proofs.Chains.{Below}
 
 -- the bracket that ends arguments
 abbrev close : Token
@@ -216,7 +215,7 @@ more_not_first : (positional : List Expr) (found : List (Named Expr)) (all : Arg
 more_not_first positional found all c more (name, c1, c2, (s, is, one), later, split) look =
     let a : Some (t.Name name) ≡ Some close = ap Some (sym is) ∙ ap (λ v. next (v ++ more)) (sym (split ∙ ap (λ v. v ++ c2) one)) ∙ look in cc
 
-module _ (expr : Level → Reader Expr) (bound : ℕ) (below : Below expr bound) where
+module _ (expr : Level → Reader Expr) (bound : ℕ) (inside : Inside expr bound) where
   named_more_exact : (positional : List Expr) (found : List (Named Expr)) (p : List ℕ → Reader (Arguments Expr)) (ts : Input)
       → ((name : List ℕ) (left : Input) → length left < length ts → Exact (AreNamed positional found name) Any left (p name left))
       → Exact (NamedMore positional found) Any ts ((expect_name >>= λ name. expect m.Assign >>= λ _. p name) ts)
@@ -241,7 +240,7 @@ module _ (expr : Level → Reader Expr) (bound : ℕ) (below : Below expr bound)
       (λ value. eat m.CloseRound >>= λ ended. if ended then pure (arguments_of positional (found ++ named_as name value ∷ []) false) else
       (expect m.Comma >>= λ _. eat m.CloseRound >>= λ closed. if closed then pure (arguments_of positional (found ++ named_as name value ∷ []) true) else
       (expect_name >>= λ next_name. expect m.Assign >>= λ _. named_from expr n positional (found ++ named_as name value ∷ []) next_name)))
-      (below level.Test ts small)
+      (inside level.Test ts small)
       (λ value left taken split r. tail_exact m.CloseRound (λ same. cc) (arguments_of positional (found ++ named_as name value ∷ []) false)
       (arguments_of positional (found ++ named_as name value ∷ []) true) (NamedMore positional (found ++ named_as name value ∷ [])) (more_not_first positional (found ++ named_as name value ∷ []))
       (expect_name >>= λ next_name. expect m.Assign >>= λ _. named_from expr n positional (found ++ named_as name value ∷ []) next_name) left
@@ -407,7 +406,7 @@ not_assign found all c more tail look = elim (tail_next m.CloseRound (arguments_
   | inr is ↦ (let a : Some comma ≡ Some assign = sym is ∙ look in cc)
 ]
 
-module _ (expr : Level → Reader Expr) (bound : ℕ) (below : Below expr bound) where
+module _ (expr : Level → Reader Expr) (bound : ℕ) (inside : Inside expr bound) where
   positional_exact : (found : List Expr) (more : List Expr → Reader (Arguments Expr)) (ts : Input)
       → ((left : Input) → length left < length ts → Exact (AreArguments found) Any left (more found left)) → Exact (PositionalTail found) Any ts (positional_by expr found more ts)
   positional_exact found more ts later =
@@ -435,7 +434,7 @@ module _ (expr : Level → Reader Expr) (bound : ℕ) (below : Below expr bound)
             subst (λ v. NamedFrom found v all c) b named)
       ])
       _ (exact_token_then assign (AreNamed found [] name) Any (some_named found [] name) ts (named_from expr n found [] name)
-      (λ left less. named_exact expr bound below n found [] name left (omega arith) (omega arith)) here))
+      (λ left less. named_exact expr bound inside n found [] name left (omega arith) (omega arith)) here))
       (λ other. exact_by (PositionalTail (found ++ item ∷ [])) (ArgumentTail found item) Any ts (λ all c j. inl j)
       (λ all c w rule _ look. elim rule [
         | inl j ↦ j
@@ -453,7 +452,7 @@ module _ (expr : Level → Reader Expr) (bound : ℕ) (below : Below expr bound)
       (exact_then (IsExpr 0) (ArgumentTail found) (Ends 0) Any
       (λ item all c1 c2 more _ tail _. argument_ends found item all c2 more tail)
       (λ item c r. let (y, d, q) = some_closes m.CloseRound (arguments_of (found ++ item ∷ []) [] false) in (y, d, inl (inl q)))
-      ts (expr level.Test ts) (λ item. argument_by expr n found item (arguments_from expr n) (name_of item)) (below level.Test ts small)
+      ts (expr level.Test ts) (λ item. argument_by expr n found item (arguments_from expr n) (name_of item)) (inside level.Test ts small)
       (λ item left taken split r. let a = length_after ts taken left split in
       argument_exact n found item (arguments_from expr n) left (omega arith) (omega arith)
       (λ left2 less. arguments_from_exact n (found ++ item ∷ []) left2 (omega arith) (omega arith)) (name_of item) refl))
@@ -500,7 +499,7 @@ given_back given c h = given_of given.positional given.named given.comma c h
 pub some_given : (given : Arguments Expr) × (c : Input) × IsGiven given c
 some_given = let (y, c, q) = some_closes m.CloseRound (arguments_of [] [] false) in (y, c, given_there y c (inl q))
 
-module _ (expr : Level → Reader Expr) (bound : ℕ) (below : Below expr bound) where
+module _ (expr : Level → Reader Expr) (bound : ℕ) (inside : Inside expr bound) where
   -- arguments are read exactly, if expressions of fewer tokens are
   pub arguments_exact : (ts : Input) → length ts < bound → Exact IsGiven Any ts (arguments expr ts)
   unfolding arguments
@@ -512,4 +511,4 @@ module _ (expr : Level → Reader Expr) (bound : ℕ) (below : Below expr bound)
       _ (closes_exact m.CloseRound (arguments_of [] [] false) ts here))
       (λ other. exact_by (AreArguments []) Given Any ts (λ given c j. inr j)
       (λ given c more rule _ look. elim rule [ inl j ↦ absurd (other (sym look ∙ token_next close (Just (arguments_of [] [] false)) given c more j)) | inr h ↦ h ])
-      _ (arguments_from_exact expr bound below (length ts) [] ts (omega arith) few)))
+      _ (arguments_from_exact expr bound inside (length ts) [] ts (omega arith) few)))

@@ -89,6 +89,43 @@ comma_reader close found p = eat close >>= λ closed. if closed then pure (found
 abbrev pub tail_reader : {A : Type 0} → Mark → List A → Reader (List A × Bool) → Reader (List A × Bool)
 tail_reader close found p = eat close >>= λ ended. if ended then pure (found, false) else (expect m.Comma >>= λ _. comma_reader close found p)
 
+-- ---- readers of a tree of items
+
+choice_then : {A T : Type 0} (b : Bool) (p q : Reader A) (k : A → Reader T) (ts : Input)
+    → and_then (and_then ((if b then skip >> pure true else pure false) ts) (λ found. if found then p else q)) k
+    ≡ and_then ((if b then skip >> pure true else pure false) ts) (λ found. if found then p >>= k else q >>= k)
+choice_then true p q k ts = refl
+choice_then false p q k ts = refl
+
+-- what is read after an item and a comma, up to the tree
+abbrev pub made_comma_reader : {A T : Type 0} → Mark → (List A × Bool → T) → List A → Reader (List A × Bool) → Reader T
+made_comma_reader close make found p = eat close >>= λ closed. if closed then pure (make (found, true)) else (p >>= λ all. pure (make all))
+
+-- what is read after an item, up to the tree
+abbrev pub made_tail_reader : {A T : Type 0} → Mark → (List A × Bool → T) → List A → Reader (List A × Bool) → Reader T
+made_tail_reader close make found p =
+    eat close >>= λ ended. if ended then pure (make (found, false)) else (expect m.Comma >>= λ _. made_comma_reader close make found p)
+
+pub made_comma : {A T : Type 0} (close : Mark) (make : List A × Bool → T) (found : List A) (p : Reader (List A × Bool)) (ts : Input)
+    → and_then (comma_reader close found p ts) (λ all. pure (make all)) ≡ made_comma_reader close make found p ts
+made_comma {A} close make found p ts = choice_then {A = List A × Bool} (is_mark close (next ts)) (pure (found, true)) p (λ all. pure (make all)) ts
+
+pub made_tail : {A T : Type 0} (close : Mark) (make : List A × Bool → T) (found : List A) (p : Reader (List A × Bool)) (ts : Input)
+    → and_then (tail_reader close found p ts) (λ all. pure (make all)) ≡ made_tail_reader close make found p ts
+made_tail {A} {T} close make found p ts = by_choice (is_mark close (next ts))
+  where
+    by_comma : (o : Outcome (Unit {0})) → and_then (and_then o (λ _. comma_reader close found p)) (λ all. pure (make all)) ≡ and_then o (λ _. made_comma_reader close make found p)
+    by_comma (Ok (u, left)) = made_comma close make found p left
+    by_comma (Err left) = refl
+
+    by_choice : (b : Bool) → and_then (and_then ((if b then skip >> pure true else pure false) ts) (λ ended. if ended then pure (found, false) else (expect m.Comma >>= λ _. comma_reader close found p)))
+        (λ all. pure (make all))
+        ≡ and_then ((if b then skip >> pure true else pure false) ts) (λ ended. if ended then pure (make (found, false)) else (expect m.Comma >>= λ _. made_comma_reader close make found p))
+    by_choice true = refl
+    by_choice false = by_comma (expect m.Comma ts)
+
+-- ---- the rules
+
 module _ {A : Type 0} (Good : A → Type 0) (spell : A → Tokens) (close : Mark) where
   abbrev pub AfterComma : List A → Items A → Input → Type 0
   AfterComma found all c = Closes close (found, true) all c ⊎ AreItems Good spell close found all c
@@ -263,40 +300,30 @@ module _ {A : Type 0} (Good : A → Type 0) (spell : A → Tokens) (close : Mark
         (λ item left taken split r. tail_exact apart (found ++ item ∷ []) (more (found ++ item ∷ [])) left
         (λ left2 less. goes_on (found ++ item ∷ []) left2 (let a = length_after ts taken left split in omega arith))))
 
--- ---- readers of a tree of items
+    -- ---- a tree of the items
 
-choice_then : {A T : Type 0} (b : Bool) (p q : Reader A) (k : A → Reader T) (ts : Input)
-    → and_then (and_then ((if b then skip >> pure true else pure false) ts) (λ found. if found then p else q)) k
-    ≡ and_then ((if b then skip >> pure true else pure false) ts) (λ found. if found then p >>= k else q >>= k)
-choice_then true p q k ts = refl
-choice_then false p q k ts = refl
+    pub some_listing : {T : Type 0} (make : Items A → T) (first : A) → (x : T) × (c : Input) × Listing make first x c
+    some_listing make first =
+        let (all, c, q) = some_tail (first ∷ []) in
+        (make all, c, last_back (ItemsTail (first ∷ [])) make (make all) c all q refl)
 
--- what is read after an item and a comma, up to the tree
-abbrev pub made_comma_reader : {A T : Type 0} → Mark → (List A × Bool → T) → List A → Reader (List A × Bool) → Reader T
-made_comma_reader close make found p = eat close >>= λ closed. if closed then pure (make (found, true)) else (p >>= λ all. pure (make all))
+    pub listing_ends : {T : Type 0} (make : Items A → T) (first : A) (x : T) (c more : Input) → Listing make first x c → Ends 0 (c ++ more)
+    listing_ends make first x c more (all, c1, c2, r, last, split) =
+        subst (Ends 0) (sym (ap (λ v. v ++ more) split ∙ append_assoc c1 c2 more)) (tail_ends (first ∷ []) all c1 (c2 ++ more) r)
 
--- what is read after an item, up to the tree
-abbrev pub made_tail_reader : {A T : Type 0} → Mark → (List A × Bool → T) → List A → Reader (List A × Bool) → Reader T
-made_tail_reader close make found p =
-    eat close >>= λ ended. if ended then pure (make (found, false)) else (expect m.Comma >>= λ _. made_comma_reader close make found p)
+    -- a bracket or a comma comes next
+    pub listing_next : {T : Type 0} (make : Items A → T) (first : A) (x : T) (c more : Input) → Listing make first x c → (mark : Mark) × (next (c ++ more) ≡ Some (t.Mark mark))
+    listing_next make first x c more (all, c1, c2, inl closed, last, split) =
+        (close, ap next (ap (λ v. v ++ more) split ∙ append_assoc c1 c2 more) ∙ token_next (t.Mark close) (Just {T = Items A} (first ∷ [], false)) all c1 (c2 ++ more) closed)
+    listing_next make first x c more (all, c1, c2, inr later, last, split) =
+        (m.Comma, ap next (ap (λ v. v ++ more) split ∙ append_assoc c1 c2 more) ∙ token_next comma (AfterComma (first ∷ [])) all c1 (c2 ++ more) later)
 
-pub made_comma : {A T : Type 0} (close : Mark) (make : List A × Bool → T) (found : List A) (p : Reader (List A × Bool)) (ts : Input)
-    → and_then (comma_reader close found p ts) (λ all. pure (make all)) ≡ made_comma_reader close make found p ts
-made_comma {A} close make found p ts = choice_then {A = List A × Bool} (is_mark close (next ts)) (pure (found, true)) p (λ all. pure (make all)) ts
-
-pub made_tail : {A T : Type 0} (close : Mark) (make : List A × Bool → T) (found : List A) (p : Reader (List A × Bool)) (ts : Input)
-    → and_then (tail_reader close found p ts) (λ all. pure (make all)) ≡ made_tail_reader close make found p ts
-made_tail {A} {T} close make found p ts = by_choice (is_mark close (next ts))
-  where
-    by_comma : (o : Outcome (Unit {0})) → and_then (and_then o (λ _. comma_reader close found p)) (λ all. pure (make all)) ≡ and_then o (λ _. made_comma_reader close make found p)
-    by_comma (Ok (u, left)) = made_comma close make found p left
-    by_comma (Err left) = refl
-
-    by_choice : (b : Bool) → and_then (and_then ((if b then skip >> pure true else pure false) ts) (λ ended. if ended then pure (found, false) else (expect m.Comma >>= λ _. comma_reader close found p)))
-        (λ all. pure (make all))
-        ≡ and_then ((if b then skip >> pure true else pure false) ts) (λ ended. if ended then pure (make (found, false)) else (expect m.Comma >>= λ _. made_comma_reader close make found p))
-    by_choice true = refl
-    by_choice false = by_comma (expect m.Comma ts)
+    pub listing_exact : {T : Type 0} → close ≢ m.Comma → (make : Items A → T) (first : A) (p : Reader (Items A)) (ts : Input)
+        → ((left : Input) → length left < length ts → Exact (AreItems Good spell close (first ∷ [])) Any left (p left))
+        → Exact (Listing make first) Any ts (made_tail_reader close make (first ∷ []) p ts)
+    listing_exact apart make first p ts later =
+        subst (λ o. Exact (Listing make first) Any ts o) (made_tail close make (first ∷ []) p ts)
+        (exact_last (ItemsTail (first ∷ [])) Any Any (λ more ends. ends) make ts _ (tail_exact apart (first ∷ []) p ts later))
 
 -- ---- expressions as items
 

@@ -187,10 +187,6 @@ module _ (l : ChainLevel) (found : List (Link Expr)) where
       → (all : List (Link Expr)) (c more : Input) → AreLinks l found all c → Ends (chain_rank l) more → next (c ++ more) ≡ next ts → Just found all c
   none_back ts none all c more links ends look = none_by ts none all c more links.links links.whole links.fits links.spelt look
 
--- expressions of each level are read exactly from fewer tokens
-abbrev pub Below : (Level → Reader Expr) → ℕ → Type 0
-Below expr bound = (l : Level) (ts : Input) → length ts < bound → Exact (IsExpr (level_rank l)) (Ends (level_rank l)) ts (expr l ts)
-
 -- the operands of the level are read exactly, from at most so many tokens
 abbrev pub ReadsBelow : (Level → Reader Expr) → ℕ → Level → Type 0
 ReadsBelow expr bound l = (ts : Input) → length ts ≤ bound → Exact (IsExpr (level_rank l)) (Ends (level_rank l)) ts (expr l ts)

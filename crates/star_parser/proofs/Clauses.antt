@@ -557,6 +557,44 @@ some_for =
     let s = some_token (t.Word w.In) in
     (x, c ++ s ∷ d, (all, c, s ∷ d, q, (tt, s ∷ [], d, (s, refl, refl), r, refl), refl))
 
+-- ---- clauses of which the first is a `for`
+
+starts_there : (all : List (Clause Expr)) (c : Input) → Claused w.For IsFor (λ x. x) [] all c → ForClauses all c
+unfolding opening
+starts_there all c (u, c1, c2, tok, (x, c3, c4, r, more, split2), split) =
+    let (clause, opens) = for_there x c3 r in
+    (claused_there w.For IsFor (λ x. x) for_there for_back for_ends [] all c (u, c1, c2, tok, (x, c3, c4, r, more, split2), split),
+    subst StartsWithFor (sym more.whole) (is_for x opens more.clauses))
+  where
+    is_for : (x : Clause Expr) → opening x ≡ t.Word w.For → (xs : List (Clause Expr)) → StartsWithFor (x ∷ xs)
+    is_for (For targets over) is xs = tt
+    is_for (If condition) is xs = absurd cc
+
+starts_back : (all : List (Clause Expr)) (c : Input) → ForClauses all c → Claused w.For IsFor (λ x. x) [] all c
+unfolding opening
+starts_back all c (h, starts) = of_clauses h.clauses h.whole h.good h.spelt
+  where
+    of_clauses : (xs : List (Clause Expr)) → all ≡ xs → AllByRecursion ClauseGood xs → kinds c ≡ flat_map expr_clause_spelling xs → Claused w.For IsFor (λ x. x) [] all c
+    of_clauses [] whole good spelt = absurd (subst StartsWithFor whole starts)
+    of_clauses (If condition ∷ xs) whole good spelt = absurd (subst StartsWithFor whole starts)
+    of_clauses (For targets over ∷ xs) whole good spelt =
+        let (s, c1, c2, split, is, clause, others) = clauses_cons [] all c (For targets over) xs whole good.0 good.1 spelt in
+        let (x, r, y_is) = for_back (For targets over) c1 refl clause in
+        (tt, s ∷ [], c1 ++ c2, (s, is, refl), (x, c1, c2, r, subst (λ v. AreClauses (v ∷ []) all c2) y_is others, refl), split)
+
+-- `for` comes next
+pub for_clauses_first : (all : List (Clause Expr)) (c more : Input) → ForClauses all c → next (c ++ more) ≡ Some (t.Word w.For)
+for_clauses_first all c more h = token_next (t.Word w.For) (Then IsFor (λ x. AreClauses (x ∷ []))) all c more (starts_back all c h)
+
+pub some_for_clauses : (all : List (Clause Expr)) × (c : Input) × ForClauses all c
+some_for_clauses =
+    let (x, c, r) = some_for in
+    let (all, d, q) = some_clauses (x ∷ []) in
+    let s = some_token (t.Word w.For) in
+    (all, s ∷ (c ++ d), starts_there all (s ∷ (c ++ d)) (tt, s ∷ [], c ++ d, (s, refl, refl), (x, c, d, r, q, refl), refl))
+
+-- ---- their readers
+
 module _ (expr : Level → Reader Expr) (bound : ℕ) (primaries : Primaries expr bound) (operands : Operands expr bound) where
   for_exact : (ts : Input) → length ts < bound → Exact IsFor (Ends 1) ts (for_clause expr ts)
   unfolding for_clause
@@ -616,29 +654,6 @@ module _ (expr : Level → Reader Expr) (bound : ℕ) (primaries : Primaries exp
       (eat_word w.If >>= λ is_if. if is_if then (expr level.Or >>= λ condition. clauses_from expr n (If condition ∷ [])) else pure []) ts w.For
       (λ here. for_step (clauses_from expr n) [] ts small (λ found' left less. clauses_exact n found' left (omega arith) (omega arith)) here)
       (λ no. absurd (no here))
-
-  starts_there : (all : List (Clause Expr)) (c : Input) → Claused w.For IsFor (λ x. x) [] all c → ForClauses all c
-  unfolding opening
-  starts_there all c (u, c1, c2, tok, (x, c3, c4, r, more, split2), split) =
-      let (clause, opens) = for_there x c3 r in
-      (claused_there w.For IsFor (λ x. x) for_there for_back for_ends [] all c (u, c1, c2, tok, (x, c3, c4, r, more, split2), split),
-      subst StartsWithFor (sym more.whole) (is_for x opens more.clauses))
-    where
-      is_for : (x : Clause Expr) → opening x ≡ t.Word w.For → (xs : List (Clause Expr)) → StartsWithFor (x ∷ xs)
-      is_for (For targets over) is xs = tt
-      is_for (If condition) is xs = absurd cc
-
-  starts_back : (all : List (Clause Expr)) (c : Input) → ForClauses all c → Claused w.For IsFor (λ x. x) [] all c
-  unfolding opening
-  starts_back all c (h, starts) = of_clauses h.clauses h.whole h.good h.spelt
-    where
-      of_clauses : (xs : List (Clause Expr)) → all ≡ xs → AllByRecursion ClauseGood xs → kinds c ≡ flat_map expr_clause_spelling xs → Claused w.For IsFor (λ x. x) [] all c
-      of_clauses [] whole good spelt = absurd (subst StartsWithFor whole starts)
-      of_clauses (If condition ∷ xs) whole good spelt = absurd (subst StartsWithFor whole starts)
-      of_clauses (For targets over ∷ xs) whole good spelt =
-          let (s, c1, c2, split, is, clause, others) = clauses_cons [] all c (For targets over) xs whole good.0 good.1 spelt in
-          let (x, r, y_is) = for_back (For targets over) c1 refl clause in
-          (tt, s ∷ [], c1 ++ c2, (s, is, refl), (x, c1, c2, r, subst (λ v. AreClauses (v ∷ []) all c2) y_is others, refl), split)
 
   pub for_clauses_exact : (ts : Input) → length ts ≤ bound → next ts ≡ Some (t.Word w.For) → Exact ForClauses EndsClauses ts (clauses_from expr (length ts) [] ts)
   for_clauses_exact ts few here =

@@ -5,6 +5,10 @@ pub mod Turns
 pub mod First
 pub mod Bracketed
 pub mod Clauses
+pub mod Displays
+pub mod Lists
+pub mod Dicts
+pub mod Atoms
 pub mod Words
 pub mod Closing
 pub mod Chains

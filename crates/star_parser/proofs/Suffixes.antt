@@ -28,11 +28,11 @@ use Rattle.star_parser.specs.Ends.{reach, Ends}
 use Rattle.star_parser.proofs.Exact.{Exact, Then, Just, exact_then, exact_by, exact_same, exact_pure}
 use Rattle.star_parser.proofs.Steps.{Tok, some_token, mark_is, is_mark_itself, exact_token_then, exact_expected_then, exact_last, exact_eat, token_next}
 use Rattle.star_parser.proofs.Words.{NameToken, some_name, exact_name_then}
-use Rattle.star_parser.proofs.Bracketed.{Any, Closes, closes_there, closes_back, some_closes, not_first}
+use Rattle.star_parser.proofs.Bracketed.{Any, Inside, Closes, closes_there, closes_back, some_closes, not_first}
 use Rattle.star_parser.proofs.Closing.{token_spelt, token_ends}
 use Rattle.star_parser.proofs.Rules.{IsExpr, kinds_split, kinds_cons, kinds_none, kinds_append, length_after, some_is}
 use Rattle.star_parser.proofs.First.{node_or_higher, made_is, last_there, last_back, first_of}
-use Rattle.star_parser.proofs.Chains.{Below, rank_few}
+use Rattle.star_parser.proofs.Chains.{rank_few}
 use Rattle.star_parser.proofs.Arguments.{IsGiven, some_given, arguments_exact, ending}
 
 -- the mark between the bounds of a slice
@@ -420,7 +420,7 @@ none_opens o not1 not2 not3 (Method name given) = not3
 no_more_there : (found all : List (Suffix Expr)) (c : Input) → Just found all c → AreSuffixes found all c
 no_more_there found all c (is, none) = record { suffixes = []; whole = is ∙ sym (append-nil found); fits = tt; spelt = ap kinds none }
 
-module _ (expr : Level → Reader Expr) (size : ℕ) (below : Below expr size) where
+module _ (expr : Level → Reader Expr) (size : ℕ) (below : Inside expr size) where
   bound_exact : (ts : Input) → length ts < size → Exact IsBound BoundEnds ts (bound expr ts)
   unfolding bound
   bound_exact ts few = bound_by expr ts (below level.Test ts few) (is_mark m.Colon (next ts)) (is_mark m.CloseSquare (next ts)) refl refl
@@ -615,7 +615,7 @@ primary_back x c h = elim (node_or_higher 11 x c h) [
   | inr node ↦ primary_by_layer x c node.layer node.whole node.level node.fits node.each node.spelt
 ]
 
-module _ (expr : Level → Reader Expr) (size : ℕ) (below : Below expr size) (atoms : (ts : Input) → length ts ≤ size → Exact (IsExpr 12) Any ts (atom expr ts)) where
+module _ (expr : Level → Reader Expr) (size : ℕ) (below : Inside expr size) (atoms : (ts : Input) → length ts ≤ size → Exact (IsExpr 12) Any ts (atom expr ts)) where
   -- primaries are read exactly, if atoms are, and expressions of fewer tokens
   pub primary_exact : (ts : Input) → length ts ≤ size → Exact (IsExpr 11) (Ends 11) ts (primary expr ts)
   unfolding primary
