@@ -18,7 +18,7 @@ use Rattle.star_syntax.proofs.Levelled.{EachArgument, levelled_made}
 use Rattle.star_syntax.proofs.SpellingLemmas.{spells-Name}
 use Rattle.star_parser.specs.declared.level.Level.{Level}
 use Rattle.star_parser.specs.declared.level.Level.TheVariants as level
-use Rattle.star_parser.specs.Reading.{Input, Reader, ◌>>=◌, ◌>>◌, pure, next, rest, kinds}
+use Rattle.star_parser.specs.Reading.{Input, Reader, ◌>>=◌, pure, next, kinds}
 use Rattle.star_parser.specs.Tables.{eat, expect, expect_name}
 use Rattle.star_parser.specs.Readers.{arguments_of, layer_name, name_of, named_from, positional_by, argument_by, arguments_from, arguments}
 use Rattle.star_parser.specs.Starts.{starts}

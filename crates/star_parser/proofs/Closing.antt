@@ -6,7 +6,7 @@ use Rattle.star_syntax.specs.declared.token.Token.TheVariants as t
 use Rattle.star_syntax.specs.declared.token.Mark.{Mark}
 use Rattle.star_syntax.specs.declared.token.Mark.TheVariants as m
 use Rattle.star_syntax.specs.declared.token.Spanned.{Spanned}
-use Rattle.star_parser.specs.Reading.{Input, Reader, and_then, ◌>>=◌, ◌>>◌, pure, next, kinds}
+use Rattle.star_parser.specs.Reading.{Input, Reader, and_then, ◌>>=◌, pure, next, kinds}
 use Rattle.star_parser.specs.Tables.{eat, expect}
 use Rattle.star_parser.specs.Ends.{reach, Ends}
 use Rattle.star_parser.proofs.Exact.{Exact, Then, Just, exact_by}

@@ -16,7 +16,7 @@ use Rattle.star_syntax.specs.Levels.{IsLevelled, Fits, rank, layer_rank}
 use Rattle.star_syntax.proofs.Levelled.{Each}
 use Rattle.star_parser.specs.declared.level.Level.{Level}
 use Rattle.star_parser.specs.declared.level.Level.TheVariants as level
-use Rattle.star_parser.specs.Reading.{Input, Reader, ◌>>=◌, ◌>>◌, pure, next, kinds}
+use Rattle.star_parser.specs.Reading.{Input, Reader, ◌>>=◌, pure, next, kinds}
 use Rattle.star_parser.specs.Tables.{sign_of, signs_by, signs_from, nots_from}
 use Rattle.star_parser.specs.Readers.{unary, with_signs, negated, with_nots}
 use Rattle.star_parser.specs.Starts.{starts}
