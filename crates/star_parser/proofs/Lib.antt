@@ -3,6 +3,12 @@ pub mod Rules
 pub mod Steps
 pub mod Turns
 pub mod First
+pub mod Bracketed
+pub mod Clauses
+pub mod Displays
+pub mod Lists
+pub mod Dicts
+pub mod Atoms
 pub mod Words
 pub mod Closing
 pub mod Chains
@@ -16,3 +22,5 @@ pub mod TestLists
 pub mod Smalls
 pub mod LineRules
 pub mod Parameters
+pub mod Whole
+pub mod NoEnd
