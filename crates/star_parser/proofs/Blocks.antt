@@ -25,8 +25,8 @@ use Rattle.star_parser.proofs.Exact.{Exact, Then, Just, exact_refuse, exact_then
 use Rattle.star_parser.proofs.Steps.{Tok, some_token, exact_token_then, exact_last, token_next}
 use Rattle.star_parser.proofs.Rules.{length_after, length_less}
 use Rattle.star_parser.proofs.First.{last_there, last_back}
-use Rattle.star_parser.proofs.Closing.{Any, Closed, closed_there, closed_back, closed_exact, some_closed}
-use Rattle.star_parser.proofs.LayoutSteps.{newline_is, indent_is, dedent_is, exact_eat_by, exact_expect_by_then}
+use Rattle.star_parser.proofs.Bracketed.{Any}
+use Rattle.star_parser.proofs.LayoutSteps.{Closed, closed_there, closed_back, closed_exact, some_closed, newline_is, indent_is, dedent_is, exact_eat_by, exact_expect_by_then}
 use Rattle.star_parser.proofs.LineMatches.{matches_split, matches_plain, plain_matches}
 use Rattle.star_parser.proofs.LineRules.{IsLine, some_line}
 use Rattle.star_parser.proofs.StatementParts.{EachBlock, statement_made}

@@ -23,7 +23,7 @@ use Rattle.star_parser.specs.Lines.{Marks, free, plain, statement_marks, Matches
 use Rattle.star_parser.proofs.Exact.{Exact, Then, Just, exact_then, exact_pure}
 use Rattle.star_parser.proofs.Steps.{Tok, some_token, exact_expected_then, exact_last}
 use Rattle.star_parser.proofs.First.{last_there, last_back}
-use Rattle.star_parser.proofs.Closing.{Any}
+use Rattle.star_parser.proofs.Bracketed.{Any}
 use Rattle.star_parser.proofs.LineMatches.{matches_split, matches_plain, plain_matches}
 use Rattle.star_parser.proofs.LineRules.{IsLine}
 use Rattle.star_parser.proofs.StatementParts.{EachBlock, EachPart, statement_parts, statement_made}

@@ -3,11 +3,12 @@ use Rattle.std.proofs.Common.{◌≡◌, ◌≢◌, ◌∙◌, ℕ, ◌<◌, Boo
 use Rattle.std.specs.Prelude.{if◌then◌else◌}
 use Rattle.star_syntax.specs.declared.token.Token.{Token}
 use Rattle.star_syntax.specs.declared.token.Token.TheVariants as t
-use Rattle.star_parser.specs.Reading.{Input, Outcome, Reader, and_then, ◌>>◌, pure, next, skip}
+use Rattle.star_parser.specs.Reading.{Input, Outcome, Reader, and_then, ◌>>◌, pure, next, skip, kinds}
 use Rattle.star_parser.specs.StatementTables.{is_newline, is_indent, is_dedent, is_end, eat_by, expect_by, first_line}
-use Rattle.star_parser.proofs.Exact.{Exact, Then, exact_then}
-use Rattle.star_parser.proofs.Steps.{Tok, exact_expect_by}
-use Rattle.star_parser.proofs.Rules.{length_less}
+use Rattle.star_parser.proofs.Exact.{Exact, Then, Just, exact_then, exact_pure}
+use Rattle.star_parser.proofs.Steps.{Tok, some_token, exact_token_then, exact_expect_by}
+use Rattle.star_parser.proofs.Rules.{kinds_cons, kinds_none, length_less}
+use Rattle.star_parser.proofs.Bracketed.{Any}
 
 -- ---- the tokens that the tests are of
 
@@ -26,6 +27,27 @@ dedent_is _ h = absurd cc
 pub end_is : (k : Option Token) → is_end k ≡ true → k ≡ Some t.End
 end_is (Some t.End) h = refl
 end_is _ h = absurd cc
+
+-- ---- a token that ends something
+
+-- a token, and then this tree
+abbrev pub Closed : {T : Type 0} → Token → T → T → Input → Type 0
+Closed k x = Then (Tok k) (λ _. Just x)
+
+pub closed_there : {T : Type 0} (k : Token) (x y : T) (c : Input) → Closed k x y c → (y ≡ x) × (kinds c ≡ k ∷ [])
+closed_there k x y c (u, c1, c2, (s, is, one), (y_is, none), split) =
+    (y_is, ap kinds (split ∙ ap (λ v. v ++ c2) one ∙ ap (λ v. s ∷ v) none) ∙ ap (λ v. v ∷ []) is)
+
+pub closed_back : {T : Type 0} (k : Token) (x y : T) (c : Input) → y ≡ x → kinds c ≡ k ∷ [] → Closed k x y c
+closed_back k x y c is spelt =
+    let (s, c', split, is1, none) = kinds_cons c k [] spelt in
+    (tt, s ∷ [], c', (s, is1, refl), (is, kinds_none c' none), split)
+
+pub some_closed : {T : Type 0} (k : Token) (x : T) → (y : T) × (c : Input) × Closed k x y c
+some_closed k x = let s = some_token k in (x, s ∷ [], closed_back k x x (s ∷ []) refl refl)
+
+pub closed_exact : {T : Type 0} (k : Token) (x : T) (ts : Input) → next ts ≡ Some k → Exact (Closed k x) Any ts ((skip >> pure x) ts)
+closed_exact k x ts here = exact_token_then k (Just x) Any (x, [], (refl, refl)) ts (pure x) (λ left _. exact_pure x Any left) here
 
 -- ---- a token is eaten, if it comes next: a choice
 

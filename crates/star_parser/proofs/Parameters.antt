@@ -20,8 +20,9 @@ use Rattle.star_parser.proofs.Steps.{Tok, exact_token_then, exact_eat, exact_las
 use Rattle.star_parser.proofs.Words.{NameToken, some_name, exact_name_then}
 use Rattle.star_parser.proofs.Rules.{kinds_cons}
 use Rattle.star_parser.proofs.First.{last_there, last_back}
-use Rattle.star_parser.proofs.Closing.{Any, Closed, closed_there, closed_back, some_closed, closed_exact, comma, Tail, some_tail, tail_next, tail_exact, token_spelt}
-use Rattle.star_parser.proofs.Chains.{Below}
+use Rattle.star_parser.proofs.LayoutSteps.{Closed, closed_there, closed_back, some_closed, closed_exact}
+use Rattle.star_parser.proofs.Closing.{Tail, some_tail, tail_next, tail_exact, token_spelt}
+use Rattle.star_parser.proofs.Bracketed.{Inside, Any, comma}
 use Rattle.star_parser.proofs.Arguments.{close, assign, named_as, ending, commas, commas_of, NamedLevelled, phrases, AreNamed, some_named, named_exact}
 
 -- those without a default, those with one, and whether a comma stands at the end
@@ -233,7 +234,7 @@ some_given = let (y, c, q) = some_closed close (parameters_of [] [] false) in (y
 
 -- ---- the readers
 
-module _ (expr : Level → Reader Expr) (bound : ℕ) (below : Below expr bound) where
+module _ (expr : Level → Reader Expr) (bound : ℕ) (below : Inside expr bound) where
   -- after a name
   parameter_exact : (found : List (List ℕ)) (name : List ℕ) (p : Reader Parameters) (ts : Input) → length ts < bound
       → ((left : Input) → length left < length ts → Exact (AreParameters (found ++ name ∷ [])) Any left (p left))

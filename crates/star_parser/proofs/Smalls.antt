@@ -30,10 +30,10 @@ use Rattle.star_parser.proofs.Exact.{Exact, Then, Just, exact_then, exact_by, ex
 use Rattle.star_parser.proofs.Steps.{Tok, some_token, exact_token_then, exact_eat_word, exact_last, token_next, mark_is, is_mark_itself}
 use Rattle.star_parser.proofs.Rules.{IsExpr, kinds_split, kinds_cons, kinds_none, kinds_append, next_kind, length_after}
 use Rattle.star_parser.proofs.First.{first_of, last_there, last_back}
-use Rattle.star_parser.proofs.Closing.{comma, closed_there, closed_back, token_spelt, not_first}
-use Rattle.star_parser.proofs.Chains.{Below}
+use Rattle.star_parser.proofs.Closing.{token_spelt}
+use Rattle.star_parser.proofs.Bracketed.{Inside, comma, not_first}
 use Rattle.star_parser.proofs.Arguments.{assign}
-use Rattle.star_parser.proofs.LayoutSteps.{newline_is, exact_here}
+use Rattle.star_parser.proofs.LayoutSteps.{closed_there, closed_back, newline_is, exact_here}
 use Rattle.star_parser.proofs.LineMatches.{matches_first, first_matches}
 use Rattle.star_parser.proofs.TestLists.{IsTests, EndsTests, AreMore, some_more, more_next, tests_from_more, more_from_tests, some_tests, tests_first, tests_after_exact, tests_exact}
 
@@ -244,7 +244,7 @@ augmented_back x o values c h =
 -- no phrase begins with this token
 phrase_not_first : (k : Token) → starts k ≡ 0 → (kind : SmallKind) (c more : Input) → Phrase kind c → next (c ++ more) ≢ Some k
 phrase_not_first k none kind c more (x, c1, c2, r, later, split) e =
-    not_first k none 0 x c1 (c2 ++ more) r (ap next (sym (append_assoc c1 c2 more) ∙ ap (λ v. v ++ more) (sym split)) ∙ e)
+    not_first k none c1 (c2 ++ more) (first_of 0 x c1 r) (ap next (sym (append_assoc c1 c2 more) ∙ ap (λ v. v ++ more) (sym split)) ∙ e)
 
 -- ---- what begins with a word
 
@@ -356,7 +356,7 @@ some_returned kind c more (x ∷ xs, levelled, spelt, kind_is) ends look =
 
 -- ---- the readers
 
-module _ (expr : Level → Reader Expr) (bound : ℕ) (below : Below expr bound) where
+module _ (expr : Level → Reader Expr) (bound : ℕ) (below : Inside expr bound) where
   values_exact : (make : List Expr → SmallKind) (ts : Input) → length ts < bound → Exact (Values make) EndsSmall ts (and_then (tests expr ts) (λ values. pure (make values)))
   values_exact make ts few = exact_last IsTests EndsTests EndsSmall ends_tests make ts (tests expr ts) (tests_exact expr bound below ts few)
 
@@ -534,7 +534,7 @@ kind_first (Tests found) c h = phrase_first (Tests found) c (tests_back found c 
 pub small_first : (x : Small) (c : Input) → IsSmall x c → (s : Spanned) × (d : Input) × (c ≡ s ∷ d) × (0 < small_starts s.token)
 small_first x c h = kind_first x.kind c h.0
 
-module _ (expr : Level → Reader Expr) (bound : ℕ) (below : Below expr bound) where
+module _ (expr : Level → Reader Expr) (bound : ℕ) (below : Inside expr bound) where
   pub small_exact : (ts : Input) → length ts < bound → Exact IsSmall EndsSmall ts (small expr ts)
   unfolding small
   small_exact ts few =

@@ -21,8 +21,8 @@ use Rattle.star_parser.proofs.Exact.{Exact, Then, Just, exact_then, exact_by, ex
 use Rattle.star_parser.proofs.Steps.{Tok, exact_token_then, exact_eat}
 use Rattle.star_parser.proofs.Rules.{IsExpr, kinds_split, kinds_cons, kinds_none, kinds_append, next_kind, length_after, some_is}
 use Rattle.star_parser.proofs.First.{first_of}
-use Rattle.star_parser.proofs.Closing.{comma, token_spelt}
-use Rattle.star_parser.proofs.Chains.{Below}
+use Rattle.star_parser.proofs.Closing.{token_spelt}
+use Rattle.star_parser.proofs.Bracketed.{Inside, comma}
 use Rattle.star_parser.proofs.Arguments.{commas}
 
 -- the tokens spell tests, at least one
@@ -149,7 +149,7 @@ tests_not_first k none all c more h e =
 
 -- ---- the readers
 
-module _ (expr : Level → Reader Expr) (bound : ℕ) (below : Below expr bound) where
+module _ (expr : Level → Reader Expr) (bound : ℕ) (below : Inside expr bound) where
   step : (more : List Expr → Reader (List Expr)) (found : List Expr) (ts : Input) → length ts ≤ bound
       → ((found' : List Expr) (left : Input) → length left < length ts → Exact (AreMore found') EndsTests left (more found' left))
       → Exact (AreMore found) EndsTests ts (and_then (eat m.Comma ts) (λ so. if so then (expr level.Test >>= λ x. more (found ++ x ∷ [])) else pure found))
