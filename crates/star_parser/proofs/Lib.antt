@@ -31,3 +31,5 @@ pub mod Openings
 pub mod Blocks
 pub mod Headers
 pub mod Branches
+pub mod Loops
+pub mod StatementsWhole
