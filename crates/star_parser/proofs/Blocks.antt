@@ -106,10 +106,10 @@ statements_by found all c x (y ∷ ys) is levelled spelt =
 statements_back : (found all : List Statement) (c : Input) → AreStatements found all c → OneAndMore found all c
 statements_back found all c h = statements_by found all c h.first h.others h.whole h.levelled h.spelt
 
-spelled_some : (x : Statement) (c : Input) → IsSpelled x c → c ≢ []
+pub spelled_some : (x : Statement) (c : Input) → IsSpelled x c → c ≢ []
 spelled_some x c h none = let (s, c', split, opens) = statement_first x c h.levelled h.spelt in let a : [] ≡ s ∷ c' = sym none ∙ split in cc
 
-spelled_first : (x : Statement) (c more : Input) → IsSpelled x c → (k : Token) × (next (c ++ more) ≡ Some k) × Opens k
+pub spelled_first : (x : Statement) (c more : Input) → IsSpelled x c → (k : Token) × (next (c ++ more) ≡ Some k) × Opens k
 spelled_first x c more h = let (s, c', split, opens) = statement_first x c h.levelled h.spelt in (s.token, ap (λ v. next (v ++ more)) split, opens)
 
 pub statements_first : (found all : List Statement) (c more : Input) → AreStatements found all c → (k : Token) × (next (c ++ more) ≡ Some k) × Opens k

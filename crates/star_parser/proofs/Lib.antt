@@ -33,3 +33,6 @@ pub mod Headers
 pub mod Branches
 pub mod Loops
 pub mod StatementsWhole
+pub mod Cells
+pub mod StatementsEnd
+pub mod Texts
