@@ -1,29 +1,25 @@
 -- A block is read exactly, where lines and the statements in it are.
-use Rattle.std.proofs.Common.{◌≡◌, ◌≢◌, ◌∙◌, ◌⊎◌, inl, inr, ℕ, zero, suc, ◌+◌, ◌≤◌, ◌<◌, Bool, true, false, List, [], ◌∷◌, ◌++◌, map, Option, Some, None, Result, Ok, Err, refl, sym, ap, subst, arith, rules, append_assoc, length}
+use Rattle.std.proofs.Common.{◌≡◌, ◌≢◌, ◌∙◌, ◌⊎◌, inl, inr, ℕ, zero, suc, ◌≤◌, ◌<◌, List, [], ◌∷◌, ◌++◌, Some, None, refl, sym, ap, subst, arith, append_assoc, length}
 use Rattle.std.proofs.lemmas.List.{append-nil}
 use Rattle.std.specs.Prelude.{if◌then◌else◌}
 use Rattle.std.specs.List.{flat_map, AllByRecursion}
 use Rattle.star_syntax.specs.declared.token.Token.{Token}
 use Rattle.star_syntax.specs.declared.token.Token.TheVariants as t
 use Rattle.star_syntax.specs.declared.token.Keyword.TheVariants as w
-use Rattle.star_syntax.specs.declared.token.Spanned.{Spanned}
 use Rattle.star_syntax.specs.declared.expression.Expr.{Expr}
-use Rattle.star_syntax.specs.declared.statement.SmallKind.TheVariants.{Pass}
-use Rattle.star_syntax.specs.declared.statement.Line.{Line}
 use Rattle.star_syntax.specs.declared.statement.Block.{Block}
 use Rattle.star_syntax.specs.declared.statement.Block.TheVariants.{Inline, Indented}
 use Rattle.star_syntax.specs.declared.statement.Statement.{Statement, roll-Statement}
 use Rattle.star_syntax.specs.declared.statement.Statement.TheOpen.{Statement-F}
-use Rattle.star_syntax.specs.Spelling.{Tokens, small_spelling}
-use Rattle.star_syntax.specs.Levels.{LineFits, BlockFits, IsStatement}
+use Rattle.star_syntax.specs.Levels.{BlockFits, IsStatement}
 use Rattle.star_parser.specs.declared.level.Level.{Level}
-use Rattle.star_parser.specs.Reading.{Input, Outcome, Reader, and_then, ◌>>=◌, ◌>>◌, pure, refuse, next, skip, kinds}
-use Rattle.star_parser.specs.StatementTables.{is_newline, is_indent, is_dedent, eat_newline, expect_indent, eat_dedent}
+use Rattle.star_parser.specs.Reading.{Input, Reader, and_then, ◌>>=◌, pure, next}
+use Rattle.star_parser.specs.StatementTables.{is_newline, is_indent, is_dedent, expect_indent, eat_dedent}
 use Rattle.star_parser.specs.StatementReaders.{line, statements_from, block}
-use Rattle.star_parser.specs.Lines.{Marks, free, plain, line_marks, statement_marks, Matches}
-use Rattle.star_parser.proofs.Exact.{Exact, Then, Just, exact_refuse, exact_then, exact_by, exact_same, exact_pure}
+use Rattle.star_parser.specs.Lines.{Marks, free, plain, statement_marks, Matches}
+use Rattle.star_parser.proofs.Exact.{Exact, Then, Just, exact_refuse, exact_then, exact_by, exact_same}
 use Rattle.star_parser.proofs.Steps.{Tok, some_token, exact_token_then, exact_last, token_next}
-use Rattle.star_parser.proofs.Rules.{length_after, length_less}
+use Rattle.star_parser.proofs.Rules.{length_less}
 use Rattle.star_parser.proofs.First.{last_there, last_back}
 use Rattle.star_parser.proofs.Bracketed.{Any}
 use Rattle.star_parser.proofs.LayoutSteps.{Closed, closed_there, closed_back, closed_exact, some_closed, newline_is, indent_is, dedent_is, exact_eat_by, exact_expect_by_then}
@@ -31,7 +27,7 @@ use Rattle.star_parser.proofs.LineMatches.{matches_split, matches_plain, plain_m
 use Rattle.star_parser.proofs.LineRules.{IsLine, some_line}
 use Rattle.star_parser.proofs.StatementParts.{EachBlock, statement_made}
 use Rattle.star_parser.proofs.Marks.{body_marks, marks_of, matched_joined, matched_cons}
-use Rattle.star_parser.proofs.Openings.{Opens, OpensLine, line_first, statement_first}
+use Rattle.star_parser.proofs.Openings.{Opens, line_first, statement_first}
 
 -- the tokens are those of the statement, on its lines
 pub record IsSpelled (x : Statement) (c : Input) : Type 0 where

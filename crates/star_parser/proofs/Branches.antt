@@ -1,31 +1,29 @@
 -- The branches of an `if` are read exactly, where conditions and blocks are.
-use Rattle.std.proofs.Common.{◌≡◌, ◌≢◌, ◌∙◌, ◌⊎◌, inl, inr, ℕ, zero, suc, ◌+◌, ◌≤◌, ◌<◌, Bool, true, false, List, [], ◌∷◌, ◌++◌, map, Option, Some, None, Result, Ok, Err, refl, sym, ap, subst, arith, rules, append_assoc, length}
+use Rattle.std.proofs.Common.{◌≡◌, ◌≢◌, ◌∙◌, ℕ, zero, suc, ◌≤◌, ◌<◌, List, [], ◌∷◌, ◌++◌, Option, Some, None, Ok, refl, sym, ap, subst, arith, append_assoc, length}
 use Rattle.std.proofs.lemmas.List.{append-nil}
-use Rattle.std.specs.Prelude.{if◌then◌else◌}
 use Rattle.std.specs.List.{flat_map, AllByRecursion}
 use Rattle.star_syntax.specs.declared.token.Token.{Token}
 use Rattle.star_syntax.specs.declared.token.Token.TheVariants as t
 use Rattle.star_syntax.specs.declared.token.Keyword.TheVariants as w
 use Rattle.star_syntax.specs.declared.token.Mark.TheVariants as m
-use Rattle.star_syntax.specs.declared.token.Spanned.{Spanned}
 use Rattle.star_syntax.specs.declared.expression.Expr.{Expr}
 use Rattle.star_syntax.specs.declared.statement.Block.{Block}
 use Rattle.star_syntax.specs.declared.statement.Branch.{Branch}
 use Rattle.star_syntax.specs.declared.statement.Statement.{Statement, roll-Statement}
 use Rattle.star_syntax.specs.declared.statement.Statement.TheOpen.{Statement-F}
 use Rattle.star_syntax.specs.declared.statement.Statement.TheVariants as tree
-use Rattle.star_syntax.specs.Spelling.{Tokens, expr_spelling}
+use Rattle.star_syntax.specs.Spelling.{expr_spelling}
 use Rattle.star_syntax.specs.Levels.{BranchFits, ElseFits, StatementFits, IsStatement}
 use Rattle.star_parser.specs.declared.level.Level.{Level}
 use Rattle.star_parser.specs.declared.level.Level.TheVariants as level
-use Rattle.star_parser.specs.Reading.{Input, Outcome, Reader, and_then, ◌>>=◌, ◌>>◌, pure, next, rest, skip, kinds}
-use Rattle.star_parser.specs.Tables.{expect, eat_word}
-use Rattle.star_parser.specs.Ends.{reach, Ends}
+use Rattle.star_parser.specs.Reading.{Input, Reader, ◌>>=◌, pure, next, rest}
+use Rattle.star_parser.specs.Tables.{expect}
+use Rattle.star_parser.specs.Ends.{Ends}
 use Rattle.star_parser.specs.StatementTables.{first_line}
 use Rattle.star_parser.specs.StatementReaders.{line, block, branch, branches_from, otherwise, if_after}
 use Rattle.star_parser.specs.Lines.{Marks, free, plain, Matches}
 use Rattle.star_parser.proofs.Exact.{Exact, Then, Just, exact_then, exact_by, exact_same, exact_ends, exact_pure}
-use Rattle.star_parser.proofs.Steps.{Tok, some_token, exact_token_then, exact_last, exact_eat_word, token_next}
+use Rattle.star_parser.proofs.Steps.{Tok, exact_token_then, exact_last, exact_eat_word}
 use Rattle.star_parser.proofs.Rules.{IsExpr, length_after, length_less, some_is}
 use Rattle.star_parser.proofs.First.{last_there, last_back}
 use Rattle.star_parser.proofs.Bracketed.{Any, Inside}
@@ -36,7 +34,7 @@ use Rattle.star_parser.proofs.StatementParts.{EachBranch, EachElse, EachPart}
 use Rattle.star_parser.proofs.Marks.{body_marks, case_marks, otherwise_marks, parts_marks, matched_joined, matched_cons, matched_line}
 use Rattle.star_parser.proofs.Openings.{line_first}
 use Rattle.star_parser.proofs.Blocks.{IsSpelled, EndsStatement, IsBlock}
-use Rattle.star_parser.proofs.Headers.{fronted, front_split, matched_token, TokAt, exact_tok_at, ColonBlock, IsColoned, colon_there, colon_back, some_colon, colon_exact, IsNode, node_of, of_node}
+use Rattle.star_parser.proofs.Headers.{fronted, front_split, matched_token, TokAt, exact_tok_at, ColonBlock, colon_there, colon_back, some_colon, colon_exact, node_of, of_node}
 
 pub matched_none : (c : Input) → Matches c [] → c ≡ []
 matched_none [] h = refl

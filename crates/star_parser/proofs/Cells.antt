@@ -1,20 +1,18 @@
 -- A whole cell is read exactly, if the depths are enough.
-use Rattle.std.proofs.Common.{◌≡◌, ◌≢◌, ◌∙◌, ◌⊎◌, inl, inr, ℕ, zero, suc, ◌+◌, ◌*◌, ◌≤◌, ◌<◌, Bool, true, false, List, [], ◌∷◌, ◌++◌, Option, Some, None, Result, Ok, Err, refl, sym, ap, subst, arith, append_assoc, length}
+use Rattle.std.proofs.Common.{◌≡◌, ◌≢◌, ◌∙◌, ◌⊎◌, inl, inr, ℕ, zero, suc, ◌+◌, ◌*◌, ◌≤◌, ◌<◌, List, [], ◌∷◌, ◌++◌, Some, None, refl, sym, ap, subst, arith, append_assoc, length}
 use Rattle.std.proofs.lemmas.List.{append-nil}
-use Rattle.std.specs.Prelude.{if◌then◌else◌}
 use Rattle.std.specs.List.{flat_map, AllByRecursion}
 use Rattle.star_syntax.specs.declared.token.Token.{Token}
 use Rattle.star_syntax.specs.declared.token.Token.TheVariants as t
 use Rattle.star_syntax.specs.declared.token.Keyword.TheVariants as w
-use Rattle.star_syntax.specs.declared.token.Spanned.{Spanned}
 use Rattle.star_syntax.specs.declared.expression.Expr.{Expr}
 use Rattle.star_syntax.specs.declared.statement.Statement.{Statement}
 use Rattle.star_syntax.specs.declared.statement.Module.{Module}
 use Rattle.star_syntax.specs.Levels.{IsStatement, WellLevelled}
 use Rattle.star_parser.specs.declared.level.Level.{Level}
-use Rattle.star_parser.specs.Reading.{Input, Outcome, Reader, and_then, ◌>>=◌, ◌>>◌, pure, next, kinds}
+use Rattle.star_parser.specs.Reading.{Input, Reader, ◌>>=◌, pure, next}
 use Rattle.star_parser.specs.Readers.{expr}
-use Rattle.star_parser.specs.StatementTables.{is_end, eat_end, finish}
+use Rattle.star_parser.specs.StatementTables.{is_end, finish}
 use Rattle.star_parser.specs.StatementReaders.{statement, cell_from, cell, whole}
 use Rattle.star_parser.specs.Lines.{Marks, plain, statement_marks, module_marks, Matches}
 use Rattle.star_parser.specs.Trees.{IsTree}
@@ -24,9 +22,9 @@ use Rattle.star_parser.proofs.Rules.{length_less}
 use Rattle.star_parser.proofs.Bracketed.{Any, Inside}
 use Rattle.star_parser.proofs.LayoutSteps.{Closed, closed_there, closed_back, closed_exact, some_closed, end_is, exact_eat_by}
 use Rattle.star_parser.proofs.LineMatches.{matches_split, matches_plain, plain_matches}
-use Rattle.star_parser.proofs.Marks.{matched_joined, matched_cons}
+use Rattle.star_parser.proofs.Marks.{matched_joined}
 use Rattle.star_parser.proofs.Openings.{Opens}
-use Rattle.star_parser.proofs.Blocks.{IsSpelled, EndsStatement, some_spelled, spelled_first, spelled_some, opening_ends}
+use Rattle.star_parser.proofs.Blocks.{IsSpelled, EndsStatement, spelled_first, spelled_some, opening_ends}
 use Rattle.star_parser.proofs.Whole.{expr_exact}
 use Rattle.star_parser.proofs.StatementsWhole.{statement_exact}
 

@@ -1,26 +1,23 @@
 -- Headers of statements: their first token with its line, and the colon and the block at their end.
-use Rattle.std.proofs.Common.{◌≡◌, ◌≢◌, ◌∙◌, ◌⊎◌, inl, inr, ℕ, zero, suc, ◌+◌, ◌≤◌, ◌<◌, Bool, true, false, List, [], ◌∷◌, ◌++◌, map, Option, Some, None, Result, Ok, Err, refl, sym, ap, subst, arith, rules, append_assoc, length}
-use Rattle.std.proofs.lemmas.List.{append-nil, map-append}
-use Rattle.std.specs.List.{flat_map, AllByRecursion}
+use Rattle.std.proofs.Common.{◌≡◌, ◌∙◌, ℕ, ◌<◌, [], ◌∷◌, ◌++◌, Some, Ok, refl, sym, ap, subst, arith, append_assoc, length}
+use Rattle.std.proofs.lemmas.List.{map-append}
 use Rattle.star_syntax.specs.declared.token.Token.{Token}
 use Rattle.star_syntax.specs.declared.token.Token.TheVariants as t
-use Rattle.star_syntax.specs.declared.token.Keyword.TheVariants as w
 use Rattle.star_syntax.specs.declared.token.Mark.TheVariants as m
 use Rattle.star_syntax.specs.declared.token.Spanned.{Spanned}
 use Rattle.star_syntax.specs.declared.expression.Expr.{Expr}
 use Rattle.star_syntax.specs.declared.statement.Block.{Block}
-use Rattle.star_syntax.specs.declared.statement.Block.TheVariants.{Inline, Indented}
 use Rattle.star_syntax.specs.declared.statement.Statement.{Statement, out-Statement, roll-Statement, roll-out-Statement}
 use Rattle.star_syntax.specs.declared.statement.Statement.TheOpen.{Statement-F}
 use Rattle.star_syntax.specs.Spelling.{Tokens}
 use Rattle.star_syntax.specs.Levels.{BlockFits, StatementFits, IsStatement}
 use Rattle.star_parser.specs.declared.level.Level.{Level}
-use Rattle.star_parser.specs.Reading.{Input, Outcome, Reader, and_then, ◌>>=◌, ◌>>◌, pure, next, rest, skip, kinds}
+use Rattle.star_parser.specs.Reading.{Input, Reader, ◌>>=◌, pure, next, rest, kinds}
 use Rattle.star_parser.specs.Tables.{expect}
 use Rattle.star_parser.specs.StatementTables.{first_line}
 use Rattle.star_parser.specs.StatementReaders.{line, block}
 use Rattle.star_parser.specs.Lines.{Marks, free, plain, statement_marks, Matches}
-use Rattle.star_parser.proofs.Exact.{Exact, Then, Just, exact_then, exact_pure}
+use Rattle.star_parser.proofs.Exact.{Exact, Then, Just}
 use Rattle.star_parser.proofs.Steps.{Tok, some_token, exact_expected_then, exact_last}
 use Rattle.star_parser.proofs.First.{last_there, last_back}
 use Rattle.star_parser.proofs.Bracketed.{Any}

@@ -1,11 +1,8 @@
 -- The headers of `for` and `def`, with their blocks, are read exactly.
-use Rattle.std.proofs.Common.{◌≡◌, ◌≢◌, ◌∙◌, ◌⊎◌, inl, inr, ℕ, ◌+◌, ◌≤◌, ◌<◌, Bool, true, false, List, [], ◌∷◌, ◌++◌, map, Option, Some, None, Result, Ok, Err, refl, sym, ap, subst, arith, rules, append_assoc, length}
-use Rattle.std.specs.List.{AllByRecursion}
-use Rattle.star_syntax.specs.declared.token.Token.{Token}
+use Rattle.std.proofs.Common.{◌≡◌, ◌∙◌, ℕ, ◌≤◌, ◌<◌, List, [], ◌∷◌, ◌++◌, Some, Ok, refl, sym, ap, subst, arith, append_assoc, length}
 use Rattle.star_syntax.specs.declared.token.Token.TheVariants as t
 use Rattle.star_syntax.specs.declared.token.Keyword.TheVariants as w
 use Rattle.star_syntax.specs.declared.token.Mark.TheVariants as m
-use Rattle.star_syntax.specs.declared.token.Spanned.{Spanned}
 use Rattle.star_syntax.specs.declared.expression.Expr.{Expr}
 use Rattle.star_syntax.specs.declared.statement.Block.{Block}
 use Rattle.star_syntax.specs.declared.statement.Definition.{Definition}
@@ -16,13 +13,13 @@ use Rattle.star_syntax.specs.Spelling.{Tokens, tests_spelling, parameters_spelli
 use Rattle.star_syntax.specs.Levels.{StatementFits, IsStatement}
 use Rattle.star_parser.specs.declared.level.Level.{Level}
 use Rattle.star_parser.specs.declared.level.Level.TheVariants as level
-use Rattle.star_parser.specs.Reading.{Input, Outcome, Reader, and_then, ◌>>=◌, ◌>>◌, pure, next, rest, kinds}
-use Rattle.star_parser.specs.Tables.{expect, expect_word, expect_name}
+use Rattle.star_parser.specs.Reading.{Input, Reader, ◌>>=◌, pure, next, rest}
+use Rattle.star_parser.specs.Tables.{expect, expect_word}
 use Rattle.star_parser.specs.Readers.{targets_from}
 use Rattle.star_parser.specs.Ends.{reach, Ends}
 use Rattle.star_parser.specs.StatementTables.{first_line}
 use Rattle.star_parser.specs.StatementReaders.{tests, line, parameters, block, for_after, def_after}
-use Rattle.star_parser.specs.Lines.{Marks, free, plain, Matches}
+use Rattle.star_parser.specs.Lines.{plain, Matches}
 use Rattle.star_parser.proofs.Exact.{Exact, Then, Just, exact_then, exact_ends}
 use Rattle.star_parser.proofs.Steps.{Tok, some_token, exact_expected_then, token_next}
 use Rattle.star_parser.proofs.Rules.{length_after, length_less}
@@ -36,7 +33,7 @@ use Rattle.star_parser.proofs.StatementParts.{EachPart}
 use Rattle.star_parser.proofs.Marks.{body_marks, parts_marks, matched_cons, matched_line}
 use Rattle.star_parser.proofs.Openings.{line_first}
 use Rattle.star_parser.proofs.Blocks.{IsSpelled, EndsStatement, IsBlock}
-use Rattle.star_parser.proofs.Headers.{fronted, front_split, matched_token, TokAt, exact_tok_at, ColonBlock, IsColoned, colon_there, colon_back, some_colon, colon_exact, IsNode, node_of, of_node}
+use Rattle.star_parser.proofs.Headers.{fronted, front_split, matched_token, TokAt, exact_tok_at, ColonBlock, colon_there, colon_back, some_colon, colon_exact, node_of, of_node}
 use Rattle.star_parser.proofs.Branches.{header_next}
 
 -- ---- `for`

@@ -1,7 +1,6 @@
 -- The token End stands in no statement, so it ends a cell.
-use Rattle.std.proofs.Common.{◌≡◌, ◌≢◌, ◌∙◌, ℕ, Bool, true, false, List, [], ◌∷◌, ◌++◌, map, Option, Some, None, refl, sym, ap, subst}
+use Rattle.std.proofs.Common.{◌≢◌, ℕ, Bool, true, false, List, [], ◌∷◌, ◌++◌, map, Option, Some, None, refl, sym, subst}
 use Rattle.std.specs.List.{flat_map, AllByRecursion}
-use Rattle.star_syntax.specs.declared.token.Token.{Token}
 use Rattle.star_syntax.specs.declared.token.Token.TheVariants as t
 use Rattle.star_syntax.specs.declared.token.Keyword.{Keyword}
 use Rattle.star_syntax.specs.declared.token.Keyword.TheVariants as w
@@ -16,9 +15,9 @@ use Rattle.star_syntax.specs.declared.statement.Line.{Line}
 use Rattle.star_syntax.specs.declared.statement.Block.{Block}
 use Rattle.star_syntax.specs.declared.statement.Block.TheVariants.{Inline, Indented}
 use Rattle.star_syntax.specs.declared.statement.Branch.{Branch}
-use Rattle.star_syntax.specs.declared.statement.Statement.{Statement, roll-Statement}
+use Rattle.star_syntax.specs.declared.statement.Statement.{Statement}
 use Rattle.star_syntax.specs.declared.statement.Statement.TheOpen.{Statement-F}
-use Rattle.star_syntax.specs.Spelling.{Tokens, expr_spelling, tests_spelling, kind_spelling, small_spelling, line_spelling, statement_spelling, default_spelling, parameters_spelling, listed, separated, if_written, augmented_mark}
+use Rattle.star_syntax.specs.Spelling.{Tokens, expr_spelling, tests_spelling, kind_spelling, small_spelling, line_spelling, statement_spelling, default_spelling, parameters_spelling, separated, if_written, augmented_mark}
 use Rattle.star_syntax.specs.SpellingOfParts.{body_spelling, case_spelling, otherwise_spelling, statement_parts_spelling}
 use Rattle.star_syntax.proofs.StatementLemmas.{statement_spells}
 use Rattle.star_parser.proofs.NoEnd.{Without, all_joined, without, expr_without, tests_within}

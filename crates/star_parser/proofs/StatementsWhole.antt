@@ -1,7 +1,6 @@
 -- Statements are read exactly, if the depths are enough.
-use Rattle.std.proofs.Common.{◌≡◌, ◌≢◌, ◌∙◌, ℕ, zero, suc, ◌+◌, ◌*◌, ◌≤◌, ◌<◌, Bool, true, false, List, [], ◌∷◌, ◌++◌, Option, Some, None, Result, Ok, Err, refl, sym, ap, subst, arith, length}
+use Rattle.std.proofs.Common.{◌≡◌, ◌≢◌, ◌∙◌, ℕ, zero, suc, ◌<◌, ◌++◌, Some, sym, arith, length}
 use Rattle.std.specs.Prelude.{if◌then◌else◌}
-use Rattle.star_syntax.specs.declared.token.Token.{Token}
 use Rattle.star_syntax.specs.declared.token.Token.TheVariants as t
 use Rattle.star_syntax.specs.declared.token.Keyword.TheVariants as w
 use Rattle.star_syntax.specs.declared.expression.Expr.{Expr}
@@ -9,9 +8,9 @@ use Rattle.star_syntax.specs.declared.statement.Line.{Line}
 use Rattle.star_syntax.specs.declared.statement.Statement.{Statement, roll-Statement}
 use Rattle.star_syntax.specs.declared.statement.Statement.TheOpen.{Statement-F}
 use Rattle.star_syntax.specs.declared.statement.Statement.TheVariants as tree
-use Rattle.star_syntax.specs.Levels.{StatementFits, IsStatement}
+use Rattle.star_syntax.specs.Levels.{StatementFits}
 use Rattle.star_parser.specs.declared.level.Level.{Level}
-use Rattle.star_parser.specs.Reading.{Input, Reader, and_then, ◌>>=◌, ◌>>◌, pure, next, rest}
+use Rattle.star_parser.specs.Reading.{Input, Reader, ◌>>=◌, pure, next}
 use Rattle.star_parser.specs.Tables.{eat_word}
 use Rattle.star_parser.specs.StatementTables.{first_line}
 use Rattle.star_parser.specs.StatementReaders.{line, if_after, for_after, def_after, one, statement}
@@ -21,10 +20,9 @@ use Rattle.star_parser.proofs.Steps.{exact_eat_word, exact_last}
 use Rattle.star_parser.proofs.First.{last_there, last_back}
 use Rattle.star_parser.proofs.Bracketed.{Any, Inside}
 use Rattle.star_parser.proofs.LineRules.{IsLine, line_exact}
-use Rattle.star_parser.proofs.StatementParts.{EachPart}
 use Rattle.star_parser.proofs.Marks.{parts_marks}
 use Rattle.star_parser.proofs.Blocks.{IsSpelled, EndsStatement}
-use Rattle.star_parser.proofs.Headers.{IsNode, node_of, of_node}
+use Rattle.star_parser.proofs.Headers.{node_of, of_node}
 use Rattle.star_parser.proofs.Branches.{IsIf, if_there, if_back, if_exact, header_next}
 use Rattle.star_parser.proofs.Loops.{IsFor, for_there, for_back, for_exact, IsDef, def_there, def_back, def_exact}
 

@@ -1,26 +1,25 @@
 -- What the outcome of reading a cell says of its tokens.
-use Rattle.std.proofs.Common.{◌≡◌, ◌≢◌, ◌∙◌, ℕ, zero, suc, ◌+◌, ◌*◌, ◌-◌, ◌≤◌, ◌<◌, List, [], ◌∷◌, ◌++◌, map, take, Option, Some, None, Result, Ok, Err, refl, sym, ap, subst, arith, rules, append_assoc, length, length-append}
+use Rattle.std.proofs.Common.{◌≡◌, ◌≢◌, ◌∙◌, ℕ, suc, ◌+◌, ◌*◌, ◌-◌, ◌≤◌, ◌<◌, List, [], ◌∷◌, ◌++◌, map, take, Ok, Err, refl, sym, ap, subst, arith, append_assoc, length, length-append}
 use Rattle.std.proofs.lemmas.List.{append-nil}
 use Rattle.std.specs.List.{flat_map}
 use Rattle.star_syntax.specs.declared.token.Token.{Token}
 use Rattle.star_syntax.specs.declared.token.Token.TheVariants as t
-use Rattle.star_syntax.specs.declared.token.Spanned.{Spanned}
 use Rattle.star_syntax.specs.declared.statement.Statement.{Statement}
 use Rattle.star_syntax.specs.declared.statement.Module.{Module}
 use Rattle.star_syntax.specs.Spelling.{Tokens, statement_spelling, spelling}
 use Rattle.star_syntax.specs.Levels.{WellLevelled}
-use Rattle.star_parser.specs.Reading.{Input, Outcome, Reader, and_then, ◌>>=◌, ◌>>◌, pure, next, kinds}
+use Rattle.star_parser.specs.Reading.{Input, Outcome, Reader, and_then, ◌>>=◌, pure, kinds}
 use Rattle.star_parser.specs.Readers.{expr}
 use Rattle.star_parser.specs.StatementTables.{finish}
 use Rattle.star_parser.specs.StatementReaders.{statement, cell_from, cell, whole}
-use Rattle.star_parser.specs.Lines.{Matches, module_marks, unlined}
+use Rattle.star_parser.specs.Lines.{module_marks, unlined}
 use Rattle.star_parser.specs.Trees.{LastIsEnd, IsTree, AreSpelled, Begins, IsLeast}
 use Rattle.star_parser.proofs.Exact.{Exact, Reads, Refuses}
 use Rattle.star_parser.proofs.Steps.{some_token}
 use Rattle.star_parser.proofs.Rules.{kinds_append, length_after}
 use Rattle.star_parser.proofs.NoEnd.{end_is_last}
 use Rattle.star_parser.proofs.Marks.{matched_kinds, tokens_module}
-use Rattle.star_parser.proofs.Relining.{RelinedModule, module_relined}
+use Rattle.star_parser.proofs.Relining.{module_relined}
 use Rattle.star_parser.proofs.StatementsEnd.{statements_clean}
 use Rattle.star_parser.proofs.Cells.{Nothing, whole_exact}
 
