@@ -1,36 +1,33 @@
 -- An atom is read exactly.
-use Rattle.std.proofs.Common.{◌≡◌, ◌≢◌, ◌∙◌, ◌⊎◌, inl, inr, ℕ, zero, suc, ◌+◌, ◌≤◌, ◌<◌, Bool, true, false, List, [], ◌∷◌, ◌++◌, map, Option, Some, None, Result, Ok, Err, refl, sym, ap, subst, arith, rules, append_assoc, length}
+use Rattle.std.proofs.Common.{◌≡◌, ◌∙◌, inl, inr, ℕ, ◌≤◌, ◌<◌, Bool, true, false, List, [], ◌∷◌, ◌++◌, Option, Some, None, Err, refl, sym, ap, subst, arith, append_assoc, length}
 use Rattle.std.proofs.lemmas.List.{append-nil}
-use Rattle.std.specs.Prelude.{ℤ}
 use Rattle.std.specs.List.{flat_map, AllByRecursion}
 use Rattle.star_syntax.specs.declared.token.Token.{Token}
 use Rattle.star_syntax.specs.declared.token.Token.TheVariants as t
-use Rattle.star_syntax.specs.declared.token.Keyword.{Keyword}
 use Rattle.star_syntax.specs.declared.token.Keyword.TheVariants as w
 use Rattle.star_syntax.specs.declared.token.Mark.{Mark}
 use Rattle.star_syntax.specs.declared.token.Mark.TheVariants as m
 use Rattle.star_syntax.specs.declared.token.Spanned.{Spanned}
 use Rattle.star_syntax.specs.declared.expression.ChainLevel.TheVariants as chain
 use Rattle.star_syntax.specs.declared.expression.Clause.{Clause}
-use Rattle.star_syntax.specs.declared.expression.Pair.{Pair}
 use Rattle.star_syntax.specs.declared.expression.Expr.{Expr, out-Expr, roll-Expr}
 use Rattle.star_syntax.specs.declared.expression.Expr.TheOpen.{Expr-F}
 use Rattle.star_syntax.specs.declared.expression.Expr.TheVariants as e
-use Rattle.star_syntax.specs.Spelling.{Tokens, expr_spelling, tests_spelling, listed, if_written}
+use Rattle.star_syntax.specs.Spelling.{Tokens, expr_spelling, tests_spelling, if_written}
 use Rattle.star_syntax.specs.SpellingOfParts.{parts_spelling, expr_clause_spelling, expr_pair_spelling}
-use Rattle.star_syntax.specs.Levels.{IsLevelled, Fits, rank, layer_rank, CommaFitsTuple, CommaFits, ClauseFits}
-use Rattle.star_syntax.proofs.Levelled.{Each, EachClause, EachPair, rank_parts}
+use Rattle.star_syntax.specs.Levels.{IsLevelled, Fits, layer_rank, CommaFitsTuple, ClauseFits}
+use Rattle.star_syntax.proofs.Levelled.{Each, EachClause, rank_parts}
 use Rattle.star_parser.specs.declared.level.Level.{Level}
 use Rattle.star_parser.specs.declared.level.Level.TheVariants as level
-use Rattle.star_parser.specs.Reading.{Input, Outcome, Reader, and_then, ◌>>=◌, ◌>>◌, pure, refuse, next, rest, peek, skip, kinds}
+use Rattle.star_parser.specs.Reading.{Input, Reader, ◌>>◌, pure, next, skip, kinds}
 use Rattle.star_parser.specs.Readers.{round, square, curly, atom, atom_by}
 use Rattle.star_parser.proofs.Exact.{Exact, Then, Just, exact_refuse, exact_by, exact_pure}
 use Rattle.star_parser.proofs.Steps.{Tok, exact_token_then}
 use Rattle.star_parser.proofs.Rules.{IsExpr, kinds_split, kinds_cons, kinds_none, kinds_append, some_is}
-use Rattle.star_parser.proofs.First.{Node, node_or_higher, made_is, last_there, last_back}
-use Rattle.star_parser.proofs.Bracketed.{Any, comma, Closes, closes_there, closes_back, some_closes, Phrase, Items, AreItems, AfterComma, IsItem, Inside, Several, Inner, Round, round_exact}
+use Rattle.star_parser.proofs.First.{node_or_higher, made_is, last_there, last_back}
+use Rattle.star_parser.proofs.Bracketed.{Any, comma, closes_there, closes_back, some_closes, Items, AfterComma, IsItem, Inside, Round, round_exact}
 use Rattle.star_parser.proofs.Clauses.{ClauseGood}
-use Rattle.star_parser.proofs.Displays.{Listed, Comprehended, display_there, display_back}
+use Rattle.star_parser.proofs.Displays.{display_there, display_back}
 use Rattle.star_parser.proofs.Lists.{Square, list_of, list_for, square_exact}
 use Rattle.star_parser.proofs.Dicts.{Curly, PairGood, dict_of, dict_for, curly_exact}
 

@@ -1,5 +1,5 @@
 -- Targets, and the clauses of a comprehension, are read exactly.
-use Rattle.std.proofs.Common.{◌≡◌, ◌≢◌, ◌∙◌, ◌⊎◌, inl, inr, ℕ, zero, suc, ◌+◌, ◌≤◌, ◌<◌, Bool, true, false, List, [], ◌∷◌, ◌++◌, map, Option, Some, None, Result, Ok, Err, refl, sym, ap, subst, arith, rules, append_assoc, length}
+use Rattle.std.proofs.Common.{◌≡◌, ◌≢◌, ◌∙◌, ◌⊎◌, inl, inr, ℕ, zero, suc, ◌≤◌, ◌<◌, Bool, true, false, List, [], ◌∷◌, ◌++◌, Some, None, Ok, Err, refl, sym, ap, subst, arith, append_assoc, length}
 use Rattle.std.proofs.lemmas.List.{append-nil}
 use Rattle.std.specs.Prelude.{if◌then◌else◌}
 use Rattle.std.specs.List.{flat_map, AllByRecursion}
@@ -19,19 +19,18 @@ use Rattle.star_syntax.specs.declared.expression.Expr.TheOpen.{Expr-F}
 use Rattle.star_syntax.specs.declared.expression.Expr.TheVariants as e
 use Rattle.star_syntax.specs.Spelling.{Tokens, expr_spelling, tests_spelling}
 use Rattle.star_syntax.specs.SpellingOfParts.{parts_spelling, expr_suffix_spelling, expr_clause_spelling}
-use Rattle.star_syntax.specs.Levels.{IsLevelled, Fits, SuffixFits, rank, layer_rank, is_target, layer_is_target, ends_in_index, both, AreTargets, AllLevelled, ClauseFits, StartsWithFor}
+use Rattle.star_syntax.specs.Levels.{IsLevelled, Fits, SuffixFits, rank, layer_rank, is_target, layer_is_target, ends_in_index, AreTargets, AllLevelled, ClauseFits, StartsWithFor}
 use Rattle.star_syntax.proofs.Levelled.{Each, EachSuffix, EachClause, rank_parts}
-use Rattle.star_syntax.proofs.SpellingLemmas.{spells-Name}
 use Rattle.star_parser.specs.declared.level.Level.{Level}
 use Rattle.star_parser.specs.declared.level.Level.TheVariants as level
-use Rattle.star_parser.specs.Reading.{Input, Outcome, Reader, and_then, ◌>>=◌, ◌>>◌, pure, refuse, next, rest, peek, skip, kinds}
-use Rattle.star_parser.specs.Tables.{eat, expect, eat_word, expect_word}
+use Rattle.star_parser.specs.Reading.{Input, Outcome, Reader, and_then, ◌>>=◌, ◌>>◌, pure, refuse, next, skip, kinds}
+use Rattle.star_parser.specs.Tables.{eat, eat_word, expect_word}
 use Rattle.star_parser.specs.Readers.{targets_from, for_clause, clauses_from}
-use Rattle.star_parser.specs.Ends.{reach, Ends, level_rank}
-use Rattle.star_parser.proofs.Exact.{Exact, Reads, Refuses, Then, Just, exact_refuse, exact_then, exact_by, exact_same, exact_pure}
+use Rattle.star_parser.specs.Ends.{reach, Ends}
+use Rattle.star_parser.proofs.Exact.{Exact, Reads, Then, Just, exact_refuse, exact_then, exact_by, exact_same, exact_pure}
 use Rattle.star_parser.proofs.Steps.{Tok, some_token, exact_token_then, exact_expect_word, exact_last, exact_eat, exact_eat_word, token_next}
 use Rattle.star_parser.proofs.Rules.{IsExpr, kinds_split, kinds_cons, kinds_none, kinds_append, length_after, length_less, some_is}
-use Rattle.star_parser.proofs.First.{Node, node_or_higher, made_is, last_there, last_back, first_of}
+use Rattle.star_parser.proofs.First.{node_or_higher, made_is, last_there, last_back, first_of}
 
 -- ---- a reader, and a test of what it read
 
@@ -562,9 +561,10 @@ some_for =
 starts_there : (all : List (Clause Expr)) (c : Input) → Claused w.For IsFor (λ x. x) [] all c → ForClauses all c
 unfolding opening
 starts_there all c (u, c1, c2, tok, (x, c3, c4, r, more, split2), split) =
-    let (clause, opens) = for_there x c3 r in
-    (claused_there w.For IsFor (λ x. x) for_there for_back for_ends [] all c (u, c1, c2, tok, (x, c3, c4, r, more, split2), split),
-    subst StartsWithFor (sym more.whole) (is_for x opens more.clauses))
+    let (clause, opens) = for_there x c3 r in (
+      claused_there w.For IsFor (λ x. x) for_there for_back for_ends [] all c (u, c1, c2, tok, (x, c3, c4, r, more, split2), split),
+      subst StartsWithFor (sym more.whole) (is_for x opens more.clauses),
+    )
   where
     is_for : (x : Clause Expr) → opening x ≡ t.Word w.For → (xs : List (Clause Expr)) → StartsWithFor (x ∷ xs)
     is_for (For targets over) is xs = tt

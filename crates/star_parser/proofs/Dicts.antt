@@ -1,6 +1,5 @@
 -- What follows `{` is read exactly.
-use Rattle.std.proofs.Common.{◌≡◌, ◌∙◌, ℕ, zero, suc, ◌≤◌, ◌<◌, Bool, true, false, List, [], ◌∷◌, ◌++◌, Option, Some, None, refl, sym, ap, subst, arith, append_assoc, length}
-use Rattle.std.specs.Prelude.{if◌then◌else◌}
+use Rattle.std.proofs.Common.{◌≡◌, ◌∙◌, ℕ, zero, suc, ◌≤◌, ◌<◌, List, [], ◌∷◌, ◌++◌, refl, sym, ap, subst, arith, length}
 use Rattle.star_syntax.specs.declared.token.Token.TheVariants as t
 use Rattle.star_syntax.specs.declared.token.Mark.TheVariants as m
 use Rattle.star_syntax.specs.declared.expression.Clause.{Clause}
@@ -13,7 +12,7 @@ use Rattle.star_syntax.specs.Levels.{IsLevelled}
 use Rattle.star_syntax.proofs.Levelled.{EachPair}
 use Rattle.star_parser.specs.declared.level.Level.{Level}
 use Rattle.star_parser.specs.declared.level.Level.TheVariants as level
-use Rattle.star_parser.specs.Reading.{Input, Reader, ◌>>=◌, ◌>>◌, pure, next, kinds}
+use Rattle.star_parser.specs.Reading.{Input, Reader, ◌>>=◌, pure, next, kinds}
 use Rattle.star_parser.specs.Tables.{expect}
 use Rattle.star_parser.specs.Readers.{pair, pairs_from, paired_after, dict_over, dict_by, curly}
 use Rattle.star_parser.specs.Ends.{reach, Ends}
@@ -23,7 +22,7 @@ use Rattle.star_parser.proofs.Rules.{kinds_split, kinds_cons, kinds_append, leng
 use Rattle.star_parser.proofs.First.{last_there, last_back}
 use Rattle.star_parser.proofs.Bracketed.{Any, Phrase, Starts, Items, AreItems, Listing, listing_exact, items_none, items_step, IsItem, item_begins, some_item, Tests, item_exact}
 use Rattle.star_parser.proofs.Clauses.{Primaries, Operands}
-use Rattle.star_parser.proofs.Displays.{Closed, closed_exact, DisplayTail, Display, display_tail_exact, display_exact}
+use Rattle.star_parser.proofs.Displays.{closed_exact, DisplayTail, Display, display_tail_exact, display_exact}
 
 -- ---- pairs
 

@@ -1,5 +1,5 @@
 -- What follows the opening bracket of a list or a dict: items with commas between, or one of them and clauses.
-use Rattle.std.proofs.Common.{◌≡◌, ◌≢◌, ◌∙◌, ◌⊎◌, inl, inr, ℕ, zero, suc, ◌+◌, ◌≤◌, ◌<◌, Bool, true, false, List, [], ◌∷◌, ◌++◌, map, Option, Some, None, Result, Ok, Err, refl, sym, ap, subst, arith, rules, append_assoc, length}
+use Rattle.std.proofs.Common.{◌≡◌, ◌∙◌, ◌⊎◌, inl, inr, ℕ, ◌≤◌, Bool, true, false, List, [], ◌∷◌, ◌++◌, map, Option, Some, refl, sym, ap, subst, arith, append_assoc, length}
 use Rattle.std.specs.Prelude.{if◌then◌else◌}
 use Rattle.std.specs.List.{flat_map, AllByRecursion}
 use Rattle.star_syntax.specs.declared.token.Token.{Token}
@@ -7,23 +7,22 @@ use Rattle.star_syntax.specs.declared.token.Token.TheVariants as t
 use Rattle.star_syntax.specs.declared.token.Keyword.TheVariants as w
 use Rattle.star_syntax.specs.declared.token.Mark.{Mark}
 use Rattle.star_syntax.specs.declared.token.Mark.TheVariants as m
-use Rattle.star_syntax.specs.declared.token.Spanned.{Spanned}
 use Rattle.star_syntax.specs.declared.expression.Clause.{Clause}
 use Rattle.star_syntax.specs.declared.expression.Expr.{Expr}
 use Rattle.star_syntax.specs.Spelling.{Tokens, listed, if_written}
 use Rattle.star_syntax.specs.SpellingOfParts.{expr_clause_spelling}
 use Rattle.star_syntax.specs.Levels.{StartsWithFor, CommaFits}
 use Rattle.star_parser.specs.declared.level.Level.{Level}
-use Rattle.star_parser.specs.Reading.{Input, Outcome, Reader, and_then, ◌>>=◌, ◌>>◌, pure, refuse, next, rest, peek, skip, kinds}
+use Rattle.star_parser.specs.Reading.{Input, Reader, and_then, ◌>>=◌, pure, next, peek, kinds}
 use Rattle.star_parser.specs.Tables.{is_word, eat, expect}
 use Rattle.star_parser.specs.Readers.{clauses_from}
 use Rattle.star_parser.specs.Starts.{starts}
 use Rattle.star_parser.specs.Ends.{reach, Ends}
 use Rattle.star_parser.proofs.Exact.{Exact, Then, Just, exact_then, exact_by, exact_pure}
-use Rattle.star_parser.proofs.Steps.{Tok, exact_expected_then, exact_eat, token_next, word_is, is_word_itself}
+use Rattle.star_parser.proofs.Steps.{exact_expected_then, exact_eat, token_next, word_is, is_word_itself}
 use Rattle.star_parser.proofs.Rules.{kinds_split, kinds_append, length_after}
-use Rattle.star_parser.proofs.Bracketed.{Any, comma, Closes, closes_there, closes_back, some_closes, closes_exact, Phrase, Starts, Items, AreItems, Listing, listing_there, listing_back, phrase_first, some_listing, listing_ends, listing_next}
-use Rattle.star_parser.proofs.Clauses.{EndsClauses, AreClauses, ClauseGood, ForClauses, Primaries, Operands, some_for_clauses, for_clauses_first, for_clauses_exact}
+use Rattle.star_parser.proofs.Bracketed.{Any, Closes, closes_there, closes_back, some_closes, closes_exact, Phrase, Starts, Items, Listing, listing_there, listing_back, phrase_first, some_listing, listing_ends, listing_next}
+use Rattle.star_parser.proofs.Clauses.{EndsClauses, ClauseGood, ForClauses, Primaries, Operands, for_clauses_first, for_clauses_exact}
 
 -- ---- clauses, and then the closing bracket
 

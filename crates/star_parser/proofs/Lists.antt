@@ -1,6 +1,5 @@
 -- What follows `[` is read exactly.
-use Rattle.std.proofs.Common.{◌≡◌, ℕ, ◌≤◌, ◌<◌, Bool, true, false, List, [], ◌∷◌, Option, Some, None, refl, arith, length}
-use Rattle.std.specs.Prelude.{if◌then◌else◌}
+use Rattle.std.proofs.Common.{ℕ, ◌<◌, List, [], ◌∷◌, refl, arith, length}
 use Rattle.star_syntax.specs.declared.token.Mark.TheVariants as m
 use Rattle.star_syntax.specs.declared.expression.Clause.{Clause}
 use Rattle.star_syntax.specs.declared.expression.Expr.{Expr}
@@ -12,9 +11,9 @@ use Rattle.star_parser.specs.declared.level.Level.TheVariants as level
 use Rattle.star_parser.specs.Reading.{Input, Reader, next}
 use Rattle.star_parser.specs.Readers.{items_from, listed_after, list_over, list_by, square}
 use Rattle.star_parser.proofs.Exact.{Exact}
-use Rattle.star_parser.proofs.Bracketed.{Any, Items, Listing, listing_exact, IsItem, item_begins, some_item, Tests, item_exact, items_exact}
+use Rattle.star_parser.proofs.Bracketed.{Any, Items, Listing, listing_exact, item_begins, some_item, Tests, item_exact, items_exact}
 use Rattle.star_parser.proofs.Clauses.{Primaries, Operands}
-use Rattle.star_parser.proofs.Displays.{Closed, closed_exact, DisplayTail, Display, display_tail_exact, display_exact}
+use Rattle.star_parser.proofs.Displays.{closed_exact, DisplayTail, Display, display_tail_exact, display_exact}
 
 abbrev pub list_of : Items Expr → Expr
 list_of all = e.List all.0 all.1

@@ -7,6 +7,7 @@ use Rattle.star_syntax.specs.declared.token.Keyword.{Keyword}
 use Rattle.star_syntax.specs.declared.token.Keyword.TheVariants as w
 use Rattle.star_syntax.specs.declared.token.Mark.TheVariants as m
 use Rattle.star_syntax.specs.declared.token.Spanned.{Spanned}
+use Rattle.star_syntax.specs.declared.expression.Expr.{Expr}
 use Rattle.star_syntax.specs.declared.statement.Small.{Small}
 use Rattle.star_syntax.specs.declared.statement.Line.{Line}
 use Rattle.star_syntax.specs.declared.statement.Block.{Block}
@@ -56,18 +57,23 @@ abbrev pub block_marks : Block Marks → Marks
 block_marks (Inline line) = line_marks line
 block_marks (Indented statements) = plain (t.Newline ∷ t.Indent ∷ []) ++ (flat_map (λ s. s) statements ++ plain (t.Dedent ∷ []))
 
+-- `if ..:` or `elif ..:`
+abbrev pub branch_header : Keyword → Expr → Tokens
+branch_header word condition = t.Word word ∷ (expr_spelling condition ++ t.Mark m.Colon ∷ [])
+
 abbrev pub branch_marks : Keyword → Branch Marks → Marks
-branch_marks word branch = plain (t.Word word ∷ (expr_spelling branch.condition ++ t.Mark m.Colon ∷ [])) ++ block_marks branch.body
+branch_marks word branch = plain (branch_header word branch.condition) ++ block_marks branch.body
+
+abbrev pub else_header : Tokens
+else_header = t.Word w.Else ∷ t.Mark m.Colon ∷ []
 
 abbrev pub else_marks : Option (Block Marks) → Marks
 else_marks None = []
-else_marks (Some body) = plain (t.Word w.Else ∷ t.Mark m.Colon ∷ []) ++ block_marks body
+else_marks (Some body) = plain else_header ++ block_marks body
 
 -- `for .. in ..:`
-abbrev pub for_header : {X : Type 0} → Statement-F X → Tokens
-for_header (Statement-F.For at targets over body) =
-    t.Word w.For ∷ (tests_spelling targets ++ t.Word w.In ∷ (tests_spelling over ++ t.Mark m.Colon ∷ []))
-for_header _ = []
+abbrev pub for_header : List Expr → List Expr → Tokens
+for_header targets over = t.Word w.For ∷ (tests_spelling targets ++ t.Word w.In ∷ (tests_spelling over ++ t.Mark m.Colon ∷ []))
 
 -- `def name(..):`
 abbrev pub def_header : {X : Type 0} → Definition X → Tokens
@@ -80,7 +86,7 @@ statement_layer_marks (Statement-F.Line line) = line_marks line
 statement_layer_marks (Statement-F.If at first more other) =
     first_marked at (branch_marks w.If first ++ (flat_map (branch_marks w.Elif) more ++ else_marks other))
 statement_layer_marks (Statement-F.For at targets over body) =
-    first_marked at (plain (for_header (Statement-F.For at targets over body)) ++ block_marks body)
+    first_marked at (plain (for_header targets over) ++ block_marks body)
 statement_layer_marks (Statement-F.Def at def) = first_marked at (plain (def_header def) ++ block_marks def.body)
 
 unfoldable pub statement_marks : Statement → Marks
