@@ -28,14 +28,10 @@ use Rattle.star_parser.proofs.First.{last_there, last_back}
 use Rattle.star_parser.proofs.Bracketed.{Any}
 use Rattle.star_parser.proofs.LayoutSteps.{Closed, closed_there, closed_back, closed_exact, some_closed, newline_is, indent_is, dedent_is, exact_eat_by, exact_expect_by_then}
 use Rattle.star_parser.proofs.LineMatches.{matches_split, matches_plain, plain_matches}
+use Rattle.star_parser.proofs.LineRules.{IsLine, some_line}
 use Rattle.star_parser.proofs.StatementParts.{EachBlock, statement_made}
 use Rattle.star_parser.proofs.Marks.{body_marks, marks_of, matched_joined, matched_cons}
 use Rattle.star_parser.proofs.Openings.{Opens, OpensLine, line_first, statement_first}
-
--- the tokens are those of the line, on its lines
-pub record IsLine (x : Line) (c : Input) : Type 0 where
-  pub fits : LineFits x
-  pub spelt : Matches c (line_marks x)
 
 -- the tokens are those of the statement, on its lines
 pub record IsSpelled (x : Statement) (c : Input) : Type 0 where
@@ -47,21 +43,12 @@ pub record EndsStatement (more : Input) : Type 0 where
   pub no_elif : next more ≢ Some (t.Word w.Elif)
   pub no_else : next more ≢ Some (t.Word w.Else)
 
-abbrev pub some_line : Line
-some_line = record { smalls = record { line = 0; kind = Pass } ∷ []; semicolon = false }
-
--- some line, as it is spelled
-pub some_line_is : (x : Line) × (c : Input) × IsLine x c
-unfolding line_marks small_spelling
-some_line_is =
-    (some_line, some_token (t.Word w.Pass) ∷ some_token t.Newline ∷ [], record { fits = ((λ none. cc), (tt, tt)); spelt = (refl, refl, (refl, tt, tt)) })
-
 pub some_spelled : (x : Statement) × (c : Input) × IsSpelled x c
 some_spelled =
-    let (x, c, r) = some_line_is in (
+    let (x, c, r) = some_line in (
       roll-Statement (Statement-F.Line x),
       c,
-      record { levelled = statement_made (Statement-F.Line x) r.fits tt; spelt = subst (Matches c) (sym (marks_of (Statement-F.Line x))) r.spelt },
+      record { levelled = statement_made (Statement-F.Line x) r.0 tt; spelt = subst (Matches c) (sym (marks_of (Statement-F.Line x))) r.1 },
     )
 
 -- ---- the statements of a block
@@ -215,7 +202,7 @@ indented_there body c (u, c1, c2, (s, is, one), (u', c3, c4, (s2, is2, one2), la
 inline_there : (body : Block Statement) (c : Input) → IsInline body c → IsBlock body c
 inline_there body c h =
     let (x, r, body_is) = last_there IsLine (λ x. let p : Block Statement = Inline x in p) body c h in
-    let whole : IsBlock (Inline x) c = record { fits = r.fits; each = tt; spelt = r.spelt } in
+    let whole : IsBlock (Inline x) c = record { fits = r.0; each = tt; spelt = r.1 } in
     subst (λ v. IsBlock v c) (sym body_is) whole
 
 indented_back : (body : Block Statement) (c more : Input) → IsBlock body c → next (c ++ more) ≡ Some t.Newline → IsIndented body c
@@ -244,7 +231,7 @@ indented_back (Indented (x ∷ xs)) c more h look =
     )
 
 inline_back : (body : Block Statement) (c more : Input) → IsBlock body c → next (c ++ more) ≢ Some t.Newline → IsInline body c
-inline_back (Inline x) c more h look = last_back IsLine (λ x. let p : Block Statement = Inline x in p) (Inline x) c x (record { fits = h.fits; spelt = h.spelt }) refl
+inline_back (Inline x) c more h look = last_back IsLine (λ x. let p : Block Statement = Inline x in p) (Inline x) c x (h.fits, h.spelt) refl
 inline_back (Indented xs) c more h look =
     let (s, c2, split, is, m1) = matched_cons c t.Newline (free t.Indent ∷ (flat_map statement_marks xs ++ plain (t.Dedent ∷ []))) h.spelt in
     absurd (look (ap (λ v. next (v ++ more)) split ∙ ap Some is))
@@ -256,7 +243,7 @@ some_inner =
     (Indented found, s ∷ c, (tt, s ∷ [], c, (s, refl, refl), last_back (AreStatements []) (λ found. let p : Block Statement = Indented found in p) (Indented found) c found r refl, refl))
 
 pub some_block : (body : Block Statement) × (c : Input) × IsBlock body c
-some_block = let (x, c, r) = some_line_is in (Inline x, c, record { fits = r.fits; each = tt; spelt = r.spelt })
+some_block = let (x, c, r) = some_line in (Inline x, c, record { fits = r.0; each = tt; spelt = r.1 })
 
 module _ (expr : Level → Reader Expr) (statement : Reader Statement) (bound : ℕ)
     (lines : (ts : Input) → length ts < bound → Exact IsLine Any ts (line expr ts))

@@ -31,10 +31,11 @@ use Rattle.star_parser.proofs.First.{last_there, last_back}
 use Rattle.star_parser.proofs.Bracketed.{Any, Inside}
 use Rattle.star_parser.proofs.Closing.{token_ends}
 use Rattle.star_parser.proofs.LineMatches.{matches_split}
+use Rattle.star_parser.proofs.LineRules.{IsLine}
 use Rattle.star_parser.proofs.StatementParts.{EachBranch, EachElse, EachPart}
 use Rattle.star_parser.proofs.Marks.{body_marks, case_marks, otherwise_marks, parts_marks, matched_joined, matched_cons, matched_line}
 use Rattle.star_parser.proofs.Openings.{line_first}
-use Rattle.star_parser.proofs.Blocks.{IsLine, IsSpelled, EndsStatement, IsBlock}
+use Rattle.star_parser.proofs.Blocks.{IsSpelled, EndsStatement, IsBlock}
 use Rattle.star_parser.proofs.Headers.{fronted, front_split, matched_token, TokAt, exact_tok_at, ColonBlock, IsColoned, colon_there, colon_back, some_colon, colon_exact, IsNode, node_of, of_node}
 
 pub matched_none : (c : Input) → Matches c [] → c ≡ []
@@ -286,7 +287,7 @@ some_more at first = let (more, c, r) = some_branches [] in let (x, d, q) = some
 some_rest : (at : ℕ) → (x : Statement) × (c : Input) × IfRest at x c
 some_rest at = let (first, c, r) = some_branch in let (x, d, q) = some_more at first in (x, c ++ d, (first, c, d, r, q, refl))
 
-module _ (expr : Level → Reader Expr) (statement : Reader Statement) (bound : ℕ) (below : Inside expr bound)
+module _ (expr : Level → Reader Expr) (statement : Reader Statement) (bound : ℕ) (inside : Inside expr bound)
     (lines : (ts : Input) → length ts < bound → Exact IsLine Any ts (line expr ts))
     (exact : (ts : Input) → length ts < bound → Exact IsSpelled EndsStatement ts (statement ts)) where
   branch_exact : (ts : Input) → length ts < bound → Exact IsBranch Any ts (branch expr statement ts)
@@ -297,7 +298,7 @@ module _ (expr : Level → Reader Expr) (statement : Reader Statement) (bound : 
       (λ condition x c1 c2 more _ rule _. token_ends (t.Mark m.Colon) refl (Then IsBlock (λ body. Just (branch_of condition body))) x c2 more rule)
       (λ condition c r. some_colon (branch_of condition))
       ts (expr level.Test ts) (λ condition. expect m.Colon >>= λ _. block expr statement >>= λ body. pure (branch_of condition body))
-      (below level.Test ts few)
+      (inside level.Test ts few)
       (λ condition left taken split r. colon_exact expr statement bound lines exact (branch_of condition) left (let a = length_after ts taken left split in omega arith)))
 
   branches_exact : (n : ℕ) (found : List (Branch Statement)) (ts : Input) → length ts ≤ n → length ts < bound → Exact (AreBranches found) NoElif ts (branches_from expr statement n found ts)

@@ -25,9 +25,10 @@ use Rattle.star_parser.proofs.Steps.{Tok, some_token, exact_expected_then, exact
 use Rattle.star_parser.proofs.First.{last_there, last_back}
 use Rattle.star_parser.proofs.Bracketed.{Any}
 use Rattle.star_parser.proofs.LineMatches.{matches_split, matches_plain, plain_matches}
+use Rattle.star_parser.proofs.LineRules.{IsLine}
 use Rattle.star_parser.proofs.StatementParts.{EachBlock, EachPart, statement_parts, statement_made}
 use Rattle.star_parser.proofs.Marks.{body_marks, parts_marks, marks_of, matched_joined, matched_cons}
-use Rattle.star_parser.proofs.Blocks.{IsLine, IsSpelled, EndsStatement, IsBlock, some_block, block_exact}
+use Rattle.star_parser.proofs.Blocks.{IsSpelled, EndsStatement, IsBlock, some_block, block_exact}
 
 -- ---- tokens without lines before others
 
