@@ -31,3 +31,4 @@ pub mod Openings
 pub mod Blocks
 pub mod Headers
 pub mod Branches
+pub mod Definitions
