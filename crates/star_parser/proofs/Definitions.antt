@@ -1,11 +1,9 @@
 -- A `def` is read exactly, where its parameters and its block are.
-use Rattle.std.proofs.Common.{◌≡◌, ◌≢◌, ◌∙◌, ◌⊎◌, inl, inr, ℕ, ◌≤◌, ◌<◌, Bool, List, [], ◌∷◌, ◌++◌, Option, Some, None, Ok, refl, sym, ap, subst, arith, append_assoc, length}
+use Rattle.std.proofs.Common.{◌≡◌, ◌∙◌, ℕ, ◌≤◌, ◌<◌, Bool, List, [], ◌∷◌, ◌++◌, Some, Ok, refl, sym, ap, subst, arith, append_assoc, length}
 use Rattle.star_syntax.specs.declared.token.Token.{Token}
 use Rattle.star_syntax.specs.declared.token.Token.TheVariants as t
 use Rattle.star_syntax.specs.declared.token.Keyword.TheVariants as w
 use Rattle.star_syntax.specs.declared.token.Mark.TheVariants as m
-use Rattle.star_syntax.specs.declared.token.Spanned.{Spanned}
-use Rattle.star_syntax.specs.declared.expression.Named.{Named}
 use Rattle.star_syntax.specs.declared.expression.Expr.{Expr}
 use Rattle.star_syntax.specs.declared.statement.Block.{Block}
 use Rattle.star_syntax.specs.declared.statement.Definition.{Definition}
@@ -15,8 +13,8 @@ use Rattle.star_syntax.specs.declared.statement.Statement.TheVariants as tree
 use Rattle.star_syntax.specs.Spelling.{Tokens, parameters_spelling, if_written}
 use Rattle.star_syntax.specs.Levels.{StatementFits, IsStatement}
 use Rattle.star_parser.specs.declared.level.Level.{Level}
-use Rattle.star_parser.specs.Reading.{Input, Reader, ◌>>=◌, ◌>>◌, pure, next, rest, kinds}
-use Rattle.star_parser.specs.Tables.{expect, expect_name}
+use Rattle.star_parser.specs.Reading.{Input, Reader, ◌>>=◌, pure, next, rest, kinds}
+use Rattle.star_parser.specs.Tables.{expect}
 use Rattle.star_parser.specs.StatementTables.{first_line}
 use Rattle.star_parser.specs.StatementReaders.{line, block, parameters, def_after}
 use Rattle.star_parser.specs.Lines.{Marks, free, plain, Matches}
