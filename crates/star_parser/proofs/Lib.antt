@@ -31,4 +31,3 @@ pub mod Openings
 pub mod Blocks
 pub mod Headers
 pub mod Branches
-pub mod Definitions
