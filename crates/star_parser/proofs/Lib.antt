@@ -16,14 +16,14 @@ pub mod Prefixes
 pub mod Operators
 pub mod Arguments
 pub mod Suffixes
+pub mod Whole
+pub mod NoEnd
 pub mod LayoutSteps
 pub mod LineMatches
 pub mod TestLists
 pub mod Smalls
 pub mod LineRules
 pub mod Parameters
-pub mod Whole
-pub mod NoEnd
 pub mod StatementParts
 pub mod Marks
 pub mod Relining

@@ -30,6 +30,7 @@ use Rattle.star_parser.proofs.Smalls.{semicolon, EndsSmall, IsSmall, small_there
 abbrev pub IsLine : Line → Input → Type 0
 IsLine x c = LineFits x × Matches c (line_marks x)
 
+-- each small statement is well-levelled
 abbrev pub SmallsFit : List Small → Type 0
 SmallsFit = AllByRecursion (λ small. KindFits small.kind)
 
@@ -46,12 +47,15 @@ pub record AreSmalls (found : List Small) (all : Line) (c : Input) : Type 0 wher
   pub fits : SmallsFit (first ∷ others)
   pub spelt : Matches c (smalls_marks (first ∷ others) ++ plain (ending written))
 
+-- after a semicolon: the end of the line, or further small statements
 abbrev AfterSemicolon : List Small → Line → Input → Type 0
 AfterSemicolon found all c = Closed t.Newline (line_of found true) all c ⊎ AreSmalls found all c
 
+-- after a small statement
 abbrev SmallsTail : List Small → Line → Input → Type 0
 SmallsTail found all c = Closed t.Newline (line_of found false) all c ⊎ Then (Tok semicolon) (λ _. AfterSemicolon found) all c
 
+-- a small statement, and what follows it
 abbrev SmallsWhole : List Small → Line → Input → Type 0
 SmallsWhole found = Then IsSmall (λ x. SmallsTail (found ++ x ∷ []))
 
@@ -190,6 +194,7 @@ tail_exact found p ts later =
     (λ left _. exact_pure (line_of found false) Any left) is_newline t.Newline newline_is refl))
 
 module _ (expr : Level → Reader Expr) (bound : ℕ) (below : Inside expr bound) where
+  -- small statements up to the end of the line are read exactly
   smalls_exact : (n : ℕ) (found : List Small) (ts : Input) → length ts ≤ n → length ts < bound → Exact (AreSmalls found) Any ts (smalls_from expr n found ts)
   unfolding smalls_from
   smalls_exact zero found [] few within = exact_refuse (AreSmalls found) Any [] (some_smalls found)
@@ -223,6 +228,7 @@ line_by (x ∷ xs) written c h = record { first = x; others = xs; written = writ
 line_back : (x : Line) (c : Input) → IsLine x c → AreSmalls [] x c
 line_back x c h = line_by x.smalls x.semicolon c h
 
+-- some line
 pub some_line : (x : Line) × (c : Input) × IsLine x c
 some_line = let (x, c, h) = some_smalls [] in (x, c, line_there x c h)
 
