@@ -39,6 +39,7 @@ pub record EndsStatement (more : Input) : Type 0 where
   pub no_elif : next more ≢ Some (t.Word w.Elif)
   pub no_else : next more ≢ Some (t.Word w.Else)
 
+-- some statement, as it is spelled
 pub some_spelled : (x : Statement) × (c : Input) × IsSpelled x c
 some_spelled =
     let (x, c, r) = some_line in (
@@ -57,9 +58,11 @@ pub record AreStatements (found all : List Statement) (c : Input) : Type 0 where
   pub levelled : AllByRecursion IsStatement (first ∷ others)
   pub spelt : Matches c (flat_map statement_marks (first ∷ others) ++ plain (t.Dedent ∷ []))
 
+-- Dedent, or more statements and Dedent
 abbrev DedentOr : List Statement → List Statement → Input → Type 0
 DedentOr found all c = Closed t.Dedent found all c ⊎ AreStatements found all c
 
+-- a statement, and what follows it in a block
 abbrev OneAndMore : List Statement → List Statement → Input → Type 0
 OneAndMore found = Then IsSpelled (λ x. DedentOr (found ++ x ∷ []))
 
@@ -102,6 +105,7 @@ statements_by found all c x (y ∷ ys) is levelled spelt =
 statements_back : (found all : List Statement) (c : Input) → AreStatements found all c → OneAndMore found all c
 statements_back found all c h = statements_by found all c h.first h.others h.whole h.levelled h.spelt
 
+-- a statement has a first token, with which a line may begin
 pub spelled_some : (x : Statement) (c : Input) → IsSpelled x c → c ≢ []
 spelled_some x c h none = let (s, c', split, opens) = statement_first x c h.levelled h.spelt in let a : [] ≡ s ∷ c' = sym none ∙ split in cc
 
@@ -175,12 +179,15 @@ pub record IsBlock (body : Block Statement) (c : Input) : Type 0 where
   pub each : EachBlock IsStatement body
   pub spelt : Matches c (body_marks body)
 
+-- Indent, and the statements up to Dedent
 abbrev InnerLines : Block Statement → Input → Type 0
 InnerLines = Then (Tok t.Indent) (λ _. Then (AreStatements []) (λ found. Just (Indented found)))
 
+-- a block on lines of its own
 abbrev IsIndented : Block Statement → Input → Type 0
 IsIndented = Then (Tok t.Newline) (λ _. InnerLines)
 
+-- a block on the line of its header
 abbrev IsInline : Block Statement → Input → Type 0
 IsInline = Then IsLine (λ x. Just (Inline x))
 

@@ -42,6 +42,7 @@ matched_none (s ∷ c) h = absurd h
 
 -- ---- one branch
 
+-- a condition and the block that it guards
 abbrev branch_of : Expr → Block Statement → Branch Statement
 branch_of condition body = record { condition = condition; body = body }
 
@@ -49,11 +50,13 @@ branch_of condition body = record { condition = condition; body = body }
 abbrev pub branch_rest : Branch Statement → Marks
 branch_rest x = plain (expr_spelling x.condition ++ t.Mark m.Colon ∷ []) ++ body_marks x.body
 
+-- the tokens after `if` or `elif` are those of the branch, on its lines
 pub record IsBranch (x : Branch Statement) (c : Input) : Type 0 where
   pub fits : BranchFits x
   pub each : EachBranch IsStatement x
   pub spelt : Matches c (branch_rest x)
 
+-- a condition, a colon and a block
 abbrev BranchWhole : Branch Statement → Input → Type 0
 BranchWhole = Then (IsExpr 0) (λ condition. ColonBlock (branch_of condition))
 
@@ -97,9 +100,11 @@ pub record AreBranches (found all : List (Branch Statement)) (c : Input) : Type 
 abbrev elif_word : Token
 elif_word = t.Word w.Elif
 
+-- no branch goes on
 abbrev pub NoElif : Input → Type 0
 NoElif more = next more ≢ Some (t.Word w.Elif)
 
+-- `elif`, a branch, and more of them
 abbrev Another : List (Branch Statement) → List (Branch Statement) → Input → Type 0
 Another found = Then (Tok elif_word) (λ _. Then IsBranch (λ x. AreBranches (found ++ x ∷ [])))
 
@@ -161,9 +166,11 @@ branches_next P found all c more h at_elif at_end = by_others h.others h.spelt
 abbrev else_word : Token
 else_word = t.Word w.Else
 
+-- no `else` goes on
 abbrev pub NoElse : Input → Type 0
 NoElse more = next more ≢ Some (t.Word w.Else)
 
+-- the tokens are those of `else` and its block, on its lines, or none where there is no `else`
 pub record IsOtherwise (other : Option (Block Statement)) (c : Input) : Type 0 where
   pub fits : ElseFits other
   pub each : EachElse IsStatement other
@@ -172,6 +179,7 @@ pub record IsOtherwise (other : Option (Block Statement)) (c : Input) : Type 0 w
 abbrev made_else : Block Statement → Option (Block Statement)
 made_else body = Some body
 
+-- `else`, a colon and a block
 abbrev IsElse : Option (Block Statement) → Input → Type 0
 IsElse = Then (Tok else_word) (λ _. ColonBlock made_else)
 
@@ -212,15 +220,19 @@ otherwise_next P (Some body) c more h at_else at_end =
 abbrev made_if : ℕ → Branch Statement → List (Branch Statement) → Option (Block Statement) → Statement
 made_if at first more other = tree.If at first more other
 
+-- what stands after the branches of an `if`
 abbrev LastBranch : ℕ → Branch Statement → List (Branch Statement) → Statement → Input → Type 0
 LastBranch at first more = Then IsOtherwise (λ other. Just (made_if at first more other))
 
+-- what stands after the first branch of an `if`
 abbrev MoreBranches : ℕ → Branch Statement → Statement → Input → Type 0
 MoreBranches at first = Then (AreBranches []) (λ more. LastBranch at first more)
 
+-- what stands after `if` on this line
 abbrev IfRest : ℕ → Statement → Input → Type 0
 IfRest at = Then IsBranch (λ first. MoreBranches at first)
 
+-- `if` with its line, and what follows it
 abbrev pub IsIf : Statement → Input → Type 0
 IsIf = Then (TokAt (t.Word w.If)) IfRest
 

@@ -41,6 +41,7 @@ record AreAll (found all : List Statement) (c : Input) : Type 0 where
   pub levelled : AllByRecursion IsStatement others
   pub spelt : Matches c (flat_map statement_marks others ++ plain (t.End ∷ []))
 
+-- a statement, and more of them up to End
 abbrev Another : List Statement → List Statement → Input → Type 0
 Another found = Then IsSpelled (λ x. AreAll (found ++ x ∷ []))
 
@@ -127,9 +128,11 @@ module _ (expr : Level → Reader Expr) (statement : Reader Statement) (bound : 
 abbrev cell_of : List Statement → Module
 cell_of found = record { statements = found }
 
+-- the end of the tokens, and then the cell
 abbrev Finished : List Statement → Module → Input → Type 0
 Finished found = Then (Just {T = Unit {0}} tt) (λ _. Just (cell_of found))
 
+-- the statements up to End, and the end of the tokens
 abbrev IsCell : Module → Input → Type 0
 IsCell = Then (AreAll []) Finished
 

@@ -45,6 +45,7 @@ matched_token c c1 c2 k s x split one is h = subst (λ v. Matches v (free k ∷ 
 
 -- ---- a token and its line
 
+-- one token of this kind, on this line
 abbrev pub TokAt : Token → ℕ → Input → Type 0
 TokAt k at c = (s : Spanned) × (s.token ≡ k) × (at ≡ s.line) × (c ≡ s ∷ [])
 

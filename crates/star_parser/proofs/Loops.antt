@@ -41,15 +41,19 @@ use Rattle.star_parser.proofs.Branches.{header_next}
 abbrev made_for : ℕ → List Expr → List Expr → Block Statement → Statement
 made_for at targets over body = tree.For at targets over body
 
+-- what stands after the `in` of a `for`
 abbrev AfterIn : ℕ → List Expr → Statement → Input → Type 0
 AfterIn at targets = Then IsTests (λ over. ColonBlock (made_for at targets over))
 
+-- what stands after the targets of a `for`
 abbrev AfterTargets : ℕ → List Expr → Statement → Input → Type 0
 AfterTargets at targets = Then (Tok (t.Word w.In)) (λ _. AfterIn at targets)
 
+-- what stands after `for` on this line
 abbrev ForRest : ℕ → Statement → Input → Type 0
 ForRest at = Then (SpelledTargets []) (AfterTargets at)
 
+-- `for` with its line, and what follows it
 abbrev pub IsFor : Statement → Input → Type 0
 IsFor = Then (TokAt (t.Word w.For)) ForRest
 
@@ -129,15 +133,19 @@ some_for at = let (targets, c, r) = some_targets [] in let (x, d, q) = some_afte
 abbrev made_def : ℕ → List ℕ → Parameters → Block Statement → Statement
 made_def at name given body = tree.Def at (record { name = name; required = given.0; defaults = given.1; comma = given.2; body = body })
 
+-- what stands after `def name(`
 abbrev AfterOpen : ℕ → List ℕ → Statement → Input → Type 0
 AfterOpen at name = Then IsParameters (λ given. ColonBlock (made_def at name given))
 
+-- what stands after `def name`
 abbrev AfterName : ℕ → List ℕ → Statement → Input → Type 0
 AfterName at name = Then (Tok (t.Mark m.OpenRound)) (λ _. AfterOpen at name)
 
+-- what stands after `def` on this line
 abbrev DefRest : ℕ → Statement → Input → Type 0
 DefRest at = Then NameToken (AfterName at)
 
+-- `def` with its line, and what follows it
 abbrev pub IsDef : Statement → Input → Type 0
 IsDef = Then (TokAt (t.Word w.Def)) DefRest
 

@@ -162,12 +162,14 @@ pub record Relined (x : Statement) (c : Input) : Type 0 where
   pub spelt : Matches c (statement_marks tree)
   pub same : unlined_statement tree ≡ unlined_statement x
 
+-- the same of the statements of a block
 record RelinedList (xs : List Statement) (c : Input) : Type 0 where
   pub trees : List Statement
   pub levelled : AllByRecursion IsStatement trees
   pub spelt : Matches c (flat_map statement_marks trees)
   pub same : map unlined_statement trees ≡ map unlined_statement xs
 
+-- the same of a block
 record RelinedBody (body : Block Statement) (c : Input) : Type 0 where
   pub tree : Block Statement
   pub fits : BlockFits tree
@@ -175,6 +177,7 @@ record RelinedBody (body : Block Statement) (c : Input) : Type 0 where
   pub spelt : Matches c (body_marks tree)
   pub same : body_unlined tree ≡ body_unlined body
 
+-- the same of a branch
 record RelinedCase (word : Keyword) (branch : Branch Statement) (c : Input) : Type 0 where
   pub tree : Branch Statement
   pub fits : BranchFits tree
@@ -182,6 +185,7 @@ record RelinedCase (word : Keyword) (branch : Branch Statement) (c : Input) : Ty
   pub spelt : Matches c (case_marks word tree)
   pub same : case_unlined tree ≡ case_unlined branch
 
+-- the same of branches after `elif`
 record RelinedCases (xs : List (Branch Statement)) (c : Input) : Type 0 where
   pub trees : List (Branch Statement)
   pub fits : AllByRecursion BranchFits trees
@@ -189,6 +193,7 @@ record RelinedCases (xs : List (Branch Statement)) (c : Input) : Type 0 where
   pub spelt : Matches c (flat_map (case_marks w.Elif) trees)
   pub same : map case_unlined trees ≡ map case_unlined xs
 
+-- the same of `else` and its block
 record RelinedElse (other : Option (Block Statement)) (c : Input) : Type 0 where
   pub tree : Option (Block Statement)
   pub fits : ElseFits tree
@@ -320,6 +325,7 @@ relined = induct_statement Relines (λ d relines c levelled h. let (fits, each) 
 
 -- ---- cells
 
+-- a tree of a cell on these lines, which differs in lines alone
 pub record RelinedModule (cell : Module) (c : Input) : Type 0 where
   pub tree : Module
   pub levelled : WellLevelled tree

@@ -23,6 +23,7 @@ use Rattle.star_syntax.proofs.StatementLemmas.{statement_spells}
 use Rattle.star_parser.proofs.NoEnd.{Without, all_joined, without, expr_without, tests_within}
 use Rattle.star_parser.proofs.StatementParts.{EachBlock, EachBranch, EachElse, EachPart, induct_statement}
 
+-- End is none of the tokens
 abbrev pub NoEnd : Tokens → Type 0
 NoEnd = Without t.End
 

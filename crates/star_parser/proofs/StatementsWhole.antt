@@ -31,6 +31,7 @@ use Rattle.star_parser.proofs.Loops.{IsFor, for_there, for_back, for_exact, IsDe
 abbrev made_line : Line → Statement
 made_line x = tree.Line x
 
+-- a line, as a statement
 abbrev IsLined : Statement → Input → Type 0
 IsLined = Then IsLine (λ x. Just (made_line x))
 
