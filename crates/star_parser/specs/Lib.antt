@@ -1,7 +1,10 @@
-pub mod ThinReading
 pub mod Reading
 pub mod Tables
 pub mod Readers
 pub mod Ends
 pub mod Starts
 pub mod Verdict
+pub mod StatementTables
+pub mod StatementReaders
+pub mod Lines
+pub mod Trees
