@@ -3,3 +3,4 @@ pub mod Rules
 pub mod Steps
 pub mod Turns
 pub mod First
+pub mod Targets

@@ -4,3 +4,4 @@ pub mod Readers
 pub mod Ends
 pub mod Starts
 pub mod Verdict
+pub mod Nests
