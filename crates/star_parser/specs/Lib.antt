@@ -5,3 +5,7 @@ pub mod Ends
 pub mod Starts
 pub mod Verdict
 pub mod Nests
+pub mod StatementTables
+pub mod StatementReaders
+pub mod Lines
+pub mod Trees

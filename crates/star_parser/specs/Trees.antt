@@ -1,0 +1,31 @@
+-- The tree of a cell's tokens, and the place where there is none.
+use Rattle.std.specs.Prelude.{◌≡◌, ◌<◌, ◌+◌, ℕ, ◌++◌, length, take}
+use Rattle.star_syntax.specs.declared.statement.Module.{Module}
+use Rattle.star_syntax.specs.Levels.{WellLevelled}
+use Rattle.star_syntax.specs.Nesting.{IsEnded}
+use Rattle.star_syntax.specs.Spelling.{Tokens, spelling}
+use Rattle.star_parser.specs.Lines.{Matches, module_marks}
+use Rattle.star_parser.specs.Reading.{Input}
+
+-- the last token is End
+abbrev pub LastIsEnd : Input → Type 0
+LastIsEnd = IsEnded
+
+-- The tree's operands have the levels of the grammar, the tokens are its spelling,
+-- and each statement's line is the line of its first token.
+abbrev pub IsTree : Module → Input → Type 0
+IsTree cell tokens = WellLevelled cell × Matches tokens (module_marks cell)
+
+-- some well-levelled tree, whatever its lines, is spelled with these tokens
+abbrev pub AreSpelled : Tokens → Type 0
+AreSpelled tokens = (cell : Module) × WellLevelled cell × (spelling cell ≡ tokens)
+
+-- the tokens begin the spelling of some well-levelled tree
+abbrev pub Begins : Tokens → Type 0
+Begins tokens = (cell : Module) × (more : Tokens) × WellLevelled cell × (spelling cell ≡ tokens ++ more)
+
+-- The first token with which no tree can go on: the tokens before the place begin a tree, and those up to it begin none.
+pub record IsLeast (place : ℕ) (tokens : Tokens) : Type 0 where
+  pub within : place < length tokens
+  pub viable : Begins (take place tokens)
+  pub dead : Begins (take (place + 1) tokens) → ⊥
