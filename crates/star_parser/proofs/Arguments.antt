@@ -1,12 +1,11 @@
 -- The arguments of a call are read exactly.
-use Rattle.std.proofs.Common.{◌≡◌, ◌≢◌, ◌∙◌, ◌⊎◌, inl, inr, ℕ, zero, suc, ◌+◌, ◌≤◌, ◌<◌, Bool, true, false, List, [], ◌∷◌, ◌++◌, map, Option, Some, None, Result, Ok, Err, refl, sym, ap, subst, arith, rules, append_assoc, length}
+use Rattle.std.proofs.Common.{◌≡◌, ◌≢◌, ◌∙◌, ◌⊎◌, inl, inr, ℕ, zero, suc, ◌+◌, ◌≤◌, ◌<◌, Bool, true, false, List, [], ◌∷◌, ◌++◌, map, Option, Some, None, refl, sym, ap, subst, arith, append_assoc, length}
 use Rattle.std.proofs.lemmas.List.{append-nil}
 use Rattle.std.specs.Prelude.{if◌then◌else◌}
 use Rattle.std.specs.List.{flat_map, AllByRecursion}
 use Rattle.star_syntax.specs.declared.token.Token.{Token}
 use Rattle.star_syntax.specs.declared.token.Token.TheVariants as t
 use Rattle.star_syntax.specs.declared.token.Mark.TheVariants as m
-use Rattle.star_syntax.specs.declared.token.Spanned.{Spanned}
 use Rattle.star_syntax.specs.declared.expression.Named.{Named}
 use Rattle.star_syntax.specs.declared.expression.Arguments.{Arguments}
 use Rattle.star_syntax.specs.declared.expression.Expr.{Expr, out-Expr, roll-Expr, out-roll-Expr, roll-out-Expr}
@@ -14,31 +13,34 @@ use Rattle.star_syntax.specs.declared.expression.Expr.TheOpen.{Expr-F}
 use Rattle.star_syntax.specs.declared.expression.Expr.TheVariants as e
 use Rattle.star_syntax.specs.Spelling.{Tokens, expr_spelling, default_spelling, listed, if_written}
 use Rattle.star_syntax.specs.SpellingOfParts.{listed_arguments}
-use Rattle.star_syntax.specs.Levels.{IsLevelled, rank, CommaFits, ArgumentsFit}
+use Rattle.star_syntax.specs.Levels.{IsLevelled, ArgumentsFit}
 use Rattle.star_syntax.proofs.Levelled.{EachArgument, levelled_made}
 use Rattle.star_syntax.proofs.SpellingLemmas.{spells-Name}
 use Rattle.star_parser.specs.declared.level.Level.{Level}
 use Rattle.star_parser.specs.declared.level.Level.TheVariants as level
-use Rattle.star_parser.specs.Reading.{Input, Outcome, Reader, and_then, ◌>>=◌, ◌>>◌, pure, refuse, next, rest, peek, skip, kinds}
+use Rattle.star_parser.specs.Reading.{Input, Reader, ◌>>=◌, pure, next, kinds}
 use Rattle.star_parser.specs.Tables.{eat, expect, expect_name}
 use Rattle.star_parser.specs.Readers.{arguments_of, layer_name, name_of, named_from, positional_by, argument_by, arguments_from, arguments}
 use Rattle.star_parser.specs.Starts.{starts}
-use Rattle.star_parser.specs.Ends.{reach, Ends}
-use Rattle.star_parser.proofs.Exact.{Exact, Then, Just, exact_refuse, exact_then, exact_by, exact_same, exact_pure}
+use Rattle.star_parser.specs.Ends.{Ends}
+use Rattle.star_parser.proofs.Exact.{Exact, Then, Just, exact_refuse, exact_then, exact_by, exact_same}
 use Rattle.star_parser.proofs.Steps.{Tok, some_token, exact_token_then, exact_expected_then, exact_eat, token_next}
 use Rattle.star_parser.proofs.Words.{NameToken, exact_name_then}
-use Rattle.star_parser.proofs.Closing.{Any, Closed, closed_there, closed_back, some_closed, closed_exact, comma, AfterComma, Tail, some_tail, tail_ends, tail_next, tail_exact, not_first, token_spelt, token_ends}
-use Rattle.star_parser.proofs.Rules.{IsExpr, kinds_split, kinds_cons, kinds_none, kinds_append, next_kind, length_after, some_is}
+use Rattle.star_parser.proofs.Bracketed.{Any, Inside, comma, Closes, closes_there, closes_back, some_closes, closes_exact, not_first}
+use Rattle.star_parser.proofs.Closing.{Tail, some_tail, tail_ends, tail_next, tail_exact, token_spelt, token_ends}
+use Rattle.star_parser.proofs.Rules.{IsExpr, kinds_split, kinds_cons, kinds_append, length_after, some_is}
 use Rattle.star_parser.proofs.First.{first_of}
-use Rattle.star_parser.proofs.Chains.{Below}
 
-abbrev pub close : Token
+-- the bracket that ends arguments
+abbrev close : Token
 close = t.Mark m.CloseRound
 
-abbrev pub assign : Token
+-- the mark between a name and its value
+abbrev assign : Token
 assign = t.Mark m.Assign
 
-abbrev pub named_as : List ℕ → Expr → Named Expr
+-- `name = value`
+abbrev named_as : List ℕ → Expr → Named Expr
 named_as name value = record { name = name; value = value }
 
 -- a comma at the end, and the bracket
@@ -46,10 +48,10 @@ abbrev pub ending : Bool → Tokens
 ending written = if_written written m.Comma ++ close ∷ []
 
 -- phrases with a comma before each
-abbrev pub commas : List Tokens → Tokens
+abbrev commas : List Tokens → Tokens
 commas = flat_map (λ y. comma ∷ y)
 
-pub commas_of : (phrases : List Tokens) → phrases ≢ [] → commas phrases ≡ comma ∷ listed phrases
+commas_of : (phrases : List Tokens) → phrases ≢ [] → commas phrases ≡ comma ∷ listed phrases
 commas_of [] some = absurd (some refl)
 commas_of (x ∷ more) some = refl
 
@@ -80,10 +82,12 @@ name_spelt x name c is r = r.spelt ∙ ap expr_spelling is ∙ spells-Name name
 
 -- ---- named arguments
 
-abbrev pub NamedLevelled : List (Named Expr) → Type 0
+-- each value is levelled
+abbrev NamedLevelled : List (Named Expr) → Type 0
 NamedLevelled = AllByRecursion (λ named. IsLevelled named.value)
 
-abbrev pub phrases : List (Named Expr) → List Tokens
+-- what each spells
+abbrev phrases : List (Named Expr) → List Tokens
 phrases = map default_spelling
 
 -- after a name and `=`: the value, and more named arguments up to the bracket
@@ -100,9 +104,11 @@ pub record AreNamed (positional : List Expr) (found : List (Named Expr)) (name :
 abbrev NamedMore : List Expr → List (Named Expr) → Arguments Expr → Input → Type 0
 NamedMore positional found = Then NameToken (λ name. Then (Tok assign) (λ _. AreNamed positional found name))
 
+-- what follows a value
 abbrev NamedTail : List Expr → List (Named Expr) → Arguments Expr → Input → Type 0
 NamedTail positional found = Tail m.CloseRound (arguments_of positional found false) (arguments_of positional found true) (NamedMore positional found)
 
+-- a value and what follows it
 abbrev NamedWhole : List Expr → List (Named Expr) → List ℕ → Arguments Expr → Input → Type 0
 NamedWhole positional found name = Then (IsExpr 0) (λ value. NamedTail positional (found ++ named_as name value ∷ []))
 
@@ -113,10 +119,10 @@ spelt_after x c c1 c2 later r split is = ap kinds split ∙ kinds_append c1 c2 �
 named_there : (positional : List Expr) (found : List (Named Expr)) (name : List ℕ) (all : Arguments Expr) (c : Input)
     → NamedWhole positional found name all c → AreNamed positional found name all c
 named_there positional found name all c (x, c1, c2, r, inl closed, split) =
-    let (is, spelt) = closed_there close (arguments_of positional (found ++ named_as name x ∷ []) false) all c2 closed in
+    let (is, spelt) = closes_there m.CloseRound (arguments_of positional (found ++ named_as name x ∷ []) false) all c2 closed in
     record { value = x; others = []; written = false; whole = is; levelled = r.levelled; others_levelled = tt; spelt = spelt_after x c c1 c2 (close ∷ []) r split spelt }
 named_there positional found name all c (x, c1, c2, r, inr (u, c3, c4, (s, s_is, one), inl closed, split2), split) =
-    let (is, spelt) = closed_there close (arguments_of positional (found ++ named_as name x ∷ []) true) all c4 closed in
+    let (is, spelt) = closes_there m.CloseRound (arguments_of positional (found ++ named_as name x ∷ []) true) all c4 closed in
     record {
       value = x;
       others = [];
@@ -148,11 +154,11 @@ named_by : (positional : List Expr) (found : List (Named Expr)) (name : List ℕ
     → kinds c ≡ expr_spelling x ++ (commas (phrases others) ++ ending written) → NamedWhole positional found name all c
 named_by positional found name all c x [] false is levelled others_levelled spelt =
     let (c1, c2, split, is1, is2) = kinds_split c (expr_spelling x) (close ∷ []) spelt in
-    (x, c1, c2, record { levelled = levelled; high = omega arith; spelt = is1 }, inl (closed_back close _ all c2 is is2), split)
+    (x, c1, c2, record { levelled = levelled; high = omega arith; spelt = is1 }, inl (closes_back m.CloseRound _ all c2 is is2), split)
 named_by positional found name all c x [] true is levelled others_levelled spelt =
     let (c1, c2, split, is1, is2) = kinds_split c (expr_spelling x) (comma ∷ close ∷ []) spelt in
     let (s, c3, split2, is3, is4) = kinds_cons c2 comma (close ∷ []) is2 in
-    (x, c1, c2, record { levelled = levelled; high = omega arith; spelt = is1 }, inr (tt, s ∷ [], c3, (s, is3, refl), inl (closed_back close _ all c3 is is4), split2), split)
+    (x, c1, c2, record { levelled = levelled; high = omega arith; spelt = is1 }, inr (tt, s ∷ [], c3, (s, is3, refl), inl (closes_back m.CloseRound _ all c3 is is4), split2), split)
 named_by positional found name all c x (y ∷ ys) written is levelled others_levelled spelt =
     let later : Tokens = expr_spelling y.value ++ (commas (phrases ys) ++ ending written) in
     let (c1, c2, split, is1, is2) = kinds_split c (expr_spelling x) (comma ∷ t.Name y.name ∷ assign ∷ later)
@@ -181,19 +187,19 @@ named_back : (positional : List Expr) (found : List (Named Expr)) (name : List �
     → AreNamed positional found name all c → NamedWhole positional found name all c
 named_back positional found name all c h = named_by positional found name all c h.value h.others h.written h.whole h.levelled h.others_levelled h.spelt
 
-pub some_named : (positional : List Expr) (found : List (Named Expr)) (name : List ℕ) → (all : Arguments Expr) × (c : Input) × AreNamed positional found name all c
+some_named : (positional : List Expr) (found : List (Named Expr)) (name : List ℕ) → (all : Arguments Expr) × (c : Input) × AreNamed positional found name all c
 some_named positional found name =
     let (x, c, r) = some_is 0 (omega arith) in
-    let (y, d, q) = some_closed close (arguments_of positional (found ++ named_as name x ∷ []) false) in
+    let (y, d, q) = some_closes m.CloseRound (arguments_of positional (found ++ named_as name x ∷ []) false) in
     (y, c ++ d, named_there positional found name y (c ++ d) (x, c, d, r, inl q, refl))
 
 -- no rule that begins with an expression begins with this token
 expr_not_first : {T : Type 0} (k : Token) → starts k ≡ 0 → (RT : Expr → T → Input → Type 0) (x : T) (c more : Input) → Then (IsExpr 0) RT x c → next (c ++ more) ≢ Some k
 expr_not_first k none RT x c more (y, c1, c2, r, later, split) is =
-    not_first k none 0 y c1 (c2 ++ more) r (ap next (sym (append_assoc c1 c2 more) ∙ ap (λ v. v ++ more) (sym split)) ∙ is)
+    not_first k none c1 (c2 ++ more) (first_of 0 y c1 r) (ap next (sym (append_assoc c1 c2 more) ∙ ap (λ v. v ++ more) (sym split)) ∙ is)
 
 -- where nothing is left no expression begins
-pub expr_not_none : {T : Type 0} (RT : Expr → T → Input → Type 0) (x : T) (c more : Input) → Then (IsExpr 0) RT x c → next (c ++ more) ≢ None
+expr_not_none : {T : Type 0} (RT : Expr → T → Input → Type 0) (x : T) (c more : Input) → Then (IsExpr 0) RT x c → next (c ++ more) ≢ None
 expr_not_none RT x c more (y, c1, c2, r, later, split) is =
     let (s, c3, one, low) = first_of 0 y c1 r in
     let a : Some s.token ≡ None = ap (λ v. next ((v ++ c2) ++ more)) (sym one) ∙ ap (λ v. next (v ++ more)) (sym split) ∙ is in cc
@@ -209,7 +215,7 @@ more_not_first : (positional : List Expr) (found : List (Named Expr)) (all : Arg
 more_not_first positional found all c more (name, c1, c2, (s, is, one), later, split) look =
     let a : Some (t.Name name) ≡ Some close = ap Some (sym is) ∙ ap (λ v. next (v ++ more)) (sym (split ∙ ap (λ v. v ++ c2) one)) ∙ look in cc
 
-module _ (expr : Level → Reader Expr) (bound : ℕ) (below : Below expr bound) where
+module _ (expr : Level → Reader Expr) (bound : ℕ) (inside : Inside expr bound) where
   named_more_exact : (positional : List Expr) (found : List (Named Expr)) (p : List ℕ → Reader (Arguments Expr)) (ts : Input)
       → ((name : List ℕ) (left : Input) → length left < length ts → Exact (AreNamed positional found name) Any left (p name left))
       → Exact (NamedMore positional found) Any ts ((expect_name >>= λ name. expect m.Assign >>= λ _. p name) ts)
@@ -219,7 +225,7 @@ module _ (expr : Level → Reader Expr) (bound : ℕ) (below : Below expr bound)
       ts (λ name. expect m.Assign >>= λ _. p name)
       (λ name left less. exact_expected_then (AreNamed positional found name) Any (some_named positional found name) left (p name) (λ left2 less2. later name left2 (omega arith)) m.Assign)
 
-  pub named_exact : (n : ℕ) (positional : List Expr) (found : List (Named Expr)) (name : List ℕ) (ts : Input) → length ts ≤ n → length ts < bound
+  named_exact : (n : ℕ) (positional : List Expr) (found : List (Named Expr)) (name : List ℕ) (ts : Input) → length ts ≤ n → length ts < bound
       → Exact (AreNamed positional found name) Any ts (named_from expr n positional found name ts)
   unfolding named_from
   named_exact zero positional found name [] few small = exact_refuse (AreNamed positional found name) Any [] (some_named positional found name)
@@ -234,7 +240,7 @@ module _ (expr : Level → Reader Expr) (bound : ℕ) (below : Below expr bound)
       (λ value. eat m.CloseRound >>= λ ended. if ended then pure (arguments_of positional (found ++ named_as name value ∷ []) false) else
       (expect m.Comma >>= λ _. eat m.CloseRound >>= λ closed. if closed then pure (arguments_of positional (found ++ named_as name value ∷ []) true) else
       (expect_name >>= λ next_name. expect m.Assign >>= λ _. named_from expr n positional (found ++ named_as name value ∷ []) next_name)))
-      (below level.Test ts small)
+      (inside level.Test ts small)
       (λ value left taken split r. tail_exact m.CloseRound (λ same. cc) (arguments_of positional (found ++ named_as name value ∷ []) false)
       (arguments_of positional (found ++ named_as name value ∷ []) true) (NamedMore positional (found ++ named_as name value ∷ [])) (more_not_first positional (found ++ named_as name value ∷ []))
       (expect_name >>= λ next_name. expect m.Assign >>= λ _. named_from expr n positional (found ++ named_as name value ∷ []) next_name) left
@@ -254,6 +260,7 @@ pub record AreArguments (found : List Expr) (all : Arguments Expr) (c : Input) :
   pub named_levelled : NamedLevelled named
   pub spelt : kinds c ≡ listed_arguments positional named ++ ending written
 
+-- what follows a positional argument
 abbrev PositionalTail : List Expr → Arguments Expr → Input → Type 0
 PositionalTail found = Tail m.CloseRound (arguments_of found [] false) (arguments_of found [] true) (AreArguments found)
 
@@ -265,12 +272,13 @@ NamedFrom found name = Then (Tok assign) (λ _. AreNamed found [] name)
 abbrev ArgumentTail : List Expr → Expr → Arguments Expr → Input → Type 0
 ArgumentTail found item all c = PositionalTail (found ++ item ∷ []) all c ⊎ ((name : List ℕ) × (item ≡ e.Name name) × NamedFrom found name all c)
 
+-- an argument and what follows it
 abbrev ArgumentsWhole : List Expr → Arguments Expr → Input → Type 0
 ArgumentsWhole found = Then (IsExpr 0) (ArgumentTail found)
 
 arguments_there : (found : List Expr) (all : Arguments Expr) (c : Input) → ArgumentsWhole found all c → AreArguments found all c
 arguments_there found all c (x, c1, c2, r, inl (inl closed), split) =
-    let (is, spelt) = closed_there close (arguments_of (found ++ x ∷ []) [] false) all c2 closed in
+    let (is, spelt) = closes_there m.CloseRound (arguments_of (found ++ x ∷ []) [] false) all c2 closed in
     record {
       positional = x ∷ [];
       named = [];
@@ -282,7 +290,7 @@ arguments_there found all c (x, c1, c2, r, inl (inl closed), split) =
       spelt = spelt_after x c c1 c2 (close ∷ []) r split spelt ∙ ap (λ v. v ++ close ∷ []) (sym (append-nil (expr_spelling x)));
     }
 arguments_there found all c (x, c1, c2, r, inl (inr (u, c3, c4, (s, s_is, one), inl closed, split2)), split) =
-    let (is, spelt) = closed_there close (arguments_of (found ++ x ∷ []) [] true) all c4 closed in
+    let (is, spelt) = closes_there m.CloseRound (arguments_of (found ++ x ∷ []) [] true) all c4 closed in
     record {
       positional = x ∷ [];
       named = [];
@@ -364,11 +372,11 @@ arguments_by found all c [] (y ∷ ys) written is some levelled named_levelled s
     (e.Name y.name, s ∷ [], c2, name_is (e.Name y.name) y.name (s ∷ []) refl (ap (λ v. v ∷ []) is1), inr (y.name, refl, (tt, s2 ∷ [], c3, (s2, is3, refl), more, split2)), split)
 arguments_by found all c (x ∷ []) [] false is some levelled named_levelled spelt =
     let (c1, c2, split, is1, is2) = kinds_split c (expr_spelling x) (close ∷ []) (spelt ∙ ap (λ v. v ++ close ∷ []) (append-nil (expr_spelling x))) in
-    (x, c1, c2, record { levelled = levelled.0; high = omega arith; spelt = is1 }, inl (inl (closed_back close _ all c2 is is2)), split)
+    (x, c1, c2, record { levelled = levelled.0; high = omega arith; spelt = is1 }, inl (inl (closes_back m.CloseRound _ all c2 is is2)), split)
 arguments_by found all c (x ∷ []) [] true is some levelled named_levelled spelt =
     let (c1, c2, split, is1, is2) = kinds_split c (expr_spelling x) (comma ∷ close ∷ []) (spelt ∙ ap (λ v. v ++ comma ∷ close ∷ []) (append-nil (expr_spelling x))) in
     let (s, c3, split2, is3, is4) = kinds_cons c2 comma (close ∷ []) is2 in
-    (x, c1, c2, record { levelled = levelled.0; high = omega arith; spelt = is1 }, inl (inr (tt, s ∷ [], c3, (s, is3, refl), inl (closed_back close _ all c3 is is4), split2)), split)
+    (x, c1, c2, record { levelled = levelled.0; high = omega arith; spelt = is1 }, inl (inr (tt, s ∷ [], c3, (s, is3, refl), inl (closes_back m.CloseRound _ all c3 is is4), split2)), split)
 arguments_by found all c (x ∷ []) (y ∷ ys) written is some levelled named_levelled spelt =
     several_by found all c x [] (y ∷ ys) written is (λ none. cc) levelled.0 levelled.1 named_levelled spelt
 arguments_by found all c (x ∷ z ∷ zs) named written is some levelled named_levelled spelt =
@@ -383,7 +391,7 @@ arguments_not_first found all c more h look = expr_not_first close refl (Argumen
 some_arguments : (found : List Expr) → (all : Arguments Expr) × (c : Input) × AreArguments found all c
 some_arguments found =
     let (x, c, r) = some_is 0 (omega arith) in
-    let (y, d, q) = some_closed close (arguments_of (found ++ x ∷ []) [] false) in
+    let (y, d, q) = some_closes m.CloseRound (arguments_of (found ++ x ∷ []) [] false) in
     (y, c ++ d, arguments_there found y (c ++ d) (x, c, d, r, inl (inl q), refl))
 
 argument_ends : (found : List Expr) (item : Expr) (all : Arguments Expr) (c more : Input) → ArgumentTail found item all c → Ends 0 (c ++ more)
@@ -398,7 +406,7 @@ not_assign found all c more tail look = elim (tail_next m.CloseRound (arguments_
   | inr is ↦ (let a : Some comma ≡ Some assign = sym is ∙ look in cc)
 ]
 
-module _ (expr : Level → Reader Expr) (bound : ℕ) (below : Below expr bound) where
+module _ (expr : Level → Reader Expr) (bound : ℕ) (inside : Inside expr bound) where
   positional_exact : (found : List Expr) (more : List Expr → Reader (Arguments Expr)) (ts : Input)
       → ((left : Input) → length left < length ts → Exact (AreArguments found) Any left (more found left)) → Exact (PositionalTail found) Any ts (positional_by expr found more ts)
   positional_exact found more ts later =
@@ -426,7 +434,7 @@ module _ (expr : Level → Reader Expr) (bound : ℕ) (below : Below expr bound)
             subst (λ v. NamedFrom found v all c) b named)
       ])
       _ (exact_token_then assign (AreNamed found [] name) Any (some_named found [] name) ts (named_from expr n found [] name)
-      (λ left less. named_exact expr bound below n found [] name left (omega arith) (omega arith)) here))
+      (λ left less. named_exact expr bound inside n found [] name left (omega arith) (omega arith)) here))
       (λ other. exact_by (PositionalTail (found ++ item ∷ [])) (ArgumentTail found item) Any ts (λ all c j. inl j)
       (λ all c w rule _ look. elim rule [
         | inl j ↦ j
@@ -443,8 +451,8 @@ module _ (expr : Level → Reader Expr) (bound : ℕ) (below : Below expr bound)
       exact_same (ArgumentsWhole found) (AreArguments found) Any (arguments_there found) (arguments_back found) ts _
       (exact_then (IsExpr 0) (ArgumentTail found) (Ends 0) Any
       (λ item all c1 c2 more _ tail _. argument_ends found item all c2 more tail)
-      (λ item c r. let (y, d, q) = some_closed close (arguments_of (found ++ item ∷ []) [] false) in (y, d, inl (inl q)))
-      ts (expr level.Test ts) (λ item. argument_by expr n found item (arguments_from expr n) (name_of item)) (below level.Test ts small)
+      (λ item c r. let (y, d, q) = some_closes m.CloseRound (arguments_of (found ++ item ∷ []) [] false) in (y, d, inl (inl q)))
+      ts (expr level.Test ts) (λ item. argument_by expr n found item (arguments_from expr n) (name_of item)) (inside level.Test ts small)
       (λ item left taken split r. let a = length_after ts taken left split in
       argument_exact n found item (arguments_from expr n) left (omega arith) (omega arith)
       (λ left2 less. arguments_from_exact n (found ++ item ∷ []) left2 (omega arith) (omega arith)) (name_of item) refl))
@@ -457,8 +465,9 @@ pub record IsGiven (given : Arguments Expr) (c : Input) : Type 0 where
   pub levelled : EachArgument IsLevelled given
   pub spelt : kinds c ≡ listed_arguments given.positional given.named ++ ending given.comma
 
+-- the bracket at once, or arguments
 abbrev Given : Arguments Expr → Input → Type 0
-Given given c = Closed close (arguments_of [] [] false) given c ⊎ AreArguments [] given c
+Given given c = Closes m.CloseRound (arguments_of [] [] false) given c ⊎ AreArguments [] given c
 
 given_by : (positional : List Expr) (named : List (Named Expr)) (written : Bool) → map expr_spelling positional ++ phrases named ≢ [] → ArgumentsFit (arguments_of positional named written)
 given_by [] [] written some = absurd (some refl)
@@ -467,7 +476,7 @@ given_by (x ∷ xs) named written some = tt
 
 given_there : (given : Arguments Expr) (c : Input) → Given given c → IsGiven given c
 given_there given c (inl closed) =
-    let (is, spelt) = closed_there close (arguments_of [] [] false) given c closed in
+    let (is, spelt) = closes_there m.CloseRound (arguments_of [] [] false) given c closed in
     let whole : IsGiven (arguments_of [] [] false) c = record { fits = refl; levelled = (tt, tt); spelt = spelt } in
     subst (λ v. IsGiven v c) (sym is) whole
 given_there given c (inr h) =
@@ -477,7 +486,7 @@ given_there given c (inr h) =
 
 given_of : (positional : List Expr) (named : List (Named Expr)) (written : Bool) (c : Input) → IsGiven (arguments_of positional named written) c → Given (arguments_of positional named written) c
 given_of [] [] true c h = absurd (let f : true ≡ false = h.fits in cc)
-given_of [] [] false c h = inl (closed_back close (arguments_of [] [] false) (arguments_of [] [] false) c refl h.spelt)
+given_of [] [] false c h = inl (closes_back m.CloseRound (arguments_of [] [] false) (arguments_of [] [] false) c refl h.spelt)
 given_of [] (y ∷ ys) written c h =
     inr (record { positional = []; named = y ∷ ys; written = written; whole = refl; some = λ none. cc; levelled = tt; named_levelled = h.levelled.1; spelt = h.spelt })
 given_of (x ∷ xs) named written c h =
@@ -486,18 +495,20 @@ given_of (x ∷ xs) named written c h =
 given_back : (given : Arguments Expr) (c : Input) → IsGiven given c → Given given c
 given_back given c h = given_of given.positional given.named given.comma c h
 
+-- there are some
 pub some_given : (given : Arguments Expr) × (c : Input) × IsGiven given c
-some_given = let (y, c, q) = some_closed close (arguments_of [] [] false) in (y, c, given_there y c (inl q))
+some_given = let (y, c, q) = some_closes m.CloseRound (arguments_of [] [] false) in (y, c, given_there y c (inl q))
 
-module _ (expr : Level → Reader Expr) (bound : ℕ) (below : Below expr bound) where
+module _ (expr : Level → Reader Expr) (bound : ℕ) (inside : Inside expr bound) where
+  -- arguments are read exactly, if expressions of fewer tokens are
   pub arguments_exact : (ts : Input) → length ts < bound → Exact IsGiven Any ts (arguments expr ts)
   unfolding arguments
   arguments_exact ts few =
       exact_same Given IsGiven Any given_there given_back ts _
       (exact_eat Given Any (pure (arguments_of [] [] false)) (λ ts. arguments_from expr (length ts) [] ts) ts m.CloseRound
-      (λ here. exact_by (Closed close (arguments_of [] [] false)) Given Any ts (λ given c j. inl j)
+      (λ here. exact_by (Closes m.CloseRound (arguments_of [] [] false)) Given Any ts (λ given c j. inl j)
       (λ given c more rule _ look. elim rule [ inl j ↦ j | inr h ↦ absurd (arguments_not_first [] given c more h (look ∙ here)) ])
-      _ (closed_exact close (arguments_of [] [] false) ts here))
+      _ (closes_exact m.CloseRound (arguments_of [] [] false) ts here))
       (λ other. exact_by (AreArguments []) Given Any ts (λ given c j. inr j)
       (λ given c more rule _ look. elim rule [ inl j ↦ absurd (other (sym look ∙ token_next close (Just (arguments_of [] [] false)) given c more j)) | inr h ↦ h ])
-      _ (arguments_from_exact expr bound below (length ts) [] ts (omega arith) few)))
+      _ (arguments_from_exact expr bound inside (length ts) [] ts (omega arith) few)))

@@ -1,5 +1,5 @@
 -- A chain of operators is read exactly.
-use Rattle.std.proofs.Common.{◌≡◌, ◌≢◌, ◌∙◌, ℕ, zero, suc, ◌+◌, ◌≤◌, ◌<◌, Bool, true, false, List, [], ◌∷◌, ◌++◌, map, Option, Some, None, Result, Ok, Err, refl, sym, ap, subst, arith, rules, append_assoc, length}
+use Rattle.std.proofs.Common.{◌≡◌, ◌≢◌, ◌∙◌, ℕ, zero, suc, ◌+◌, ◌≤◌, ◌<◌, Bool, true, false, List, [], ◌∷◌, ◌++◌, Option, Some, None, Ok, refl, sym, ap, subst, arith, append_assoc, length}
 use Rattle.std.specs.List.{flat_map, AllByRecursion}
 use Rattle.std.proofs.lemmas.List.{append-nil}
 use Rattle.std.specs.Prelude.{if◌then◌else◌, ◌==◌}
@@ -14,7 +14,6 @@ use Rattle.star_syntax.specs.declared.token.Token.{Token}
 use Rattle.star_syntax.specs.declared.token.Token.TheVariants as t
 use Rattle.star_syntax.specs.declared.token.Keyword.TheVariants as w
 use Rattle.star_syntax.specs.declared.token.Mark.TheVariants as m
-use Rattle.star_syntax.specs.declared.token.Spanned.{Spanned}
 use Rattle.star_syntax.specs.declared.expression.ChainLevel.{ChainLevel}
 use Rattle.star_syntax.specs.declared.expression.ChainLevel.TheVariants as chain
 use Rattle.star_syntax.specs.declared.expression.ChainOp.{ChainOp}
@@ -23,16 +22,16 @@ use Rattle.star_syntax.specs.declared.operator.BinaryOp.TheVariants as binary
 use Rattle.star_syntax.specs.contracts.expression.ChainLevel.{the_type as level_type}
 use Rattle.star_syntax.specs.declared.expression.Link.{Link}
 use Rattle.star_syntax.specs.declared.expression.Expr.{Expr}
-use Rattle.star_syntax.specs.Spelling.{Tokens, expr_spelling, chain_token}
+use Rattle.star_syntax.specs.Spelling.{expr_spelling, chain_token}
 use Rattle.star_syntax.specs.SpellingOfParts.{expr_link_spelling}
 use Rattle.star_syntax.specs.Levels.{IsLevelled, Fits, LinkFits, rank, layer_rank, chain_rank, op_level}
 use Rattle.star_parser.specs.declared.level.Level.{Level}
-use Rattle.star_parser.specs.Reading.{Input, Outcome, Reader, and_then, ◌>>=◌, ◌>>◌, pure, refuse, next, rest, peek, skip, kinds}
+use Rattle.star_parser.specs.Reading.{Input, Reader, and_then, pure, next, skip, kinds}
 use Rattle.star_parser.specs.Tables.{chain_op, of_level, token_op}
 use Rattle.star_parser.specs.Readers.{links_from, links_by, chained, with_links}
 use Rattle.star_parser.specs.Ends.{reach, Ends, level_rank}
-use Rattle.star_parser.proofs.Exact.{Exact, Reads, Refuses, Then, Just, exact_refuse, exact_then, exact_by, exact_same, exact_pure}
-use Rattle.star_parser.proofs.Steps.{Tok, exact_skip, some_token}
+use Rattle.star_parser.proofs.Exact.{Exact, Then, Just, exact_then, exact_by, exact_same, exact_pure}
+use Rattle.star_parser.proofs.Steps.{Tok, exact_skip}
 use Rattle.star_parser.proofs.Rules.{IsExpr, kinds_split, kinds_cons, kinds_none, kinds_append, next_kind, length_after, length_less, some_is}
 
 -- ---- operators
@@ -65,6 +64,7 @@ token_of_op (Some (t.Mark m.FloorDivide)) o h = its_token (op.Binary binary.Floo
 token_of_op (Some (t.Mark m.Percent)) o h = its_token (op.Binary binary.Mod) o h
 token_of_op _ o h = absurd cc
 
+-- a token is that of one operator alone
 pub chain_token_one : (o p : ChainOp) → chain_token o ≡ chain_token p → o ≡ p
 chain_token_one o p h = let a = op_of_token o in let b = op_of_token p in let c : token_op (Some (chain_token o)) ≡ token_op (Some (chain_token p)) = ap (λ k. token_op (Some k)) h in cc
 
@@ -76,10 +76,12 @@ chosen_level : (l : ChainLevel) (q : Option ChainOp) (o : ChainOp) → of_level 
 chosen_level l None o h = absurd cc
 chosen_level l (Some q) o h = let (a, b) = chosen l q o (sameb level_type (op_level q) l) refl h in (ap Some a, subst (λ x. op_level x ≡ l) a b)
 
+-- the operator that a token is has this token and is of the level
 pub chain_op_is : (l : ChainLevel) (k : Option Token) (o : ChainOp) → chain_op l k ≡ Some o → (k ≡ Some (chain_token o)) × (op_level o ≡ l)
 unfolding chain_op
 chain_op_is l k o h = let (a, b) = chosen_level l (token_op k) o h in (token_of_op k o a, b)
 
+-- the token of an operator of the level is that operator
 pub is_chain_op : (l : ChainLevel) (o : ChainOp) → op_level o ≡ l → chain_op l (Some (chain_token o)) ≡ Some o
 unfolding chain_op
 is_chain_op l o h = rw (op_of_token o, true_same level_type (op_level o) l h) refl
@@ -184,10 +186,6 @@ module _ (l : ChainLevel) (found : List (Link Expr)) where
   none_back : (ts : Input) → chain_op l (next ts) ≡ None
       → (all : List (Link Expr)) (c more : Input) → AreLinks l found all c → Ends (chain_rank l) more → next (c ++ more) ≡ next ts → Just found all c
   none_back ts none all c more links ends look = none_by ts none all c more links.links links.whole links.fits links.spelt look
-
--- expressions of each level are read exactly from fewer tokens
-abbrev pub Below : (Level → Reader Expr) → ℕ → Type 0
-Below expr bound = (l : Level) (ts : Input) → length ts < bound → Exact (IsExpr (level_rank l)) (Ends (level_rank l)) ts (expr l ts)
 
 -- the operands of the level are read exactly, from at most so many tokens
 abbrev pub ReadsBelow : (Level → Reader Expr) → ℕ → Level → Type 0
@@ -387,6 +385,7 @@ whole_back l x c r = elim (dec_lt (chain_rank l) (rank x)) [
     with_some (y ∷ ys) some first = refl
 
 module _ (expr : Level → Reader Expr) (bound : ℕ) (l : ChainLevel) (inner : Level) (deeper : level_rank inner ≡ chain_rank l + 1) (reads : ReadsBelow expr bound inner) where
+  -- the expressions of the level of a chain are read exactly, if those of the next level are
   pub chained_exact : (ts : Input) → length ts ≤ bound → Exact (IsExpr (chain_rank l)) (Ends (chain_rank l)) ts (chained expr l inner ts)
   unfolding chained
   chained_exact ts few =

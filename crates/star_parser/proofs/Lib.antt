@@ -4,6 +4,12 @@ pub mod Steps
 pub mod Turns
 pub mod First
 pub mod Targets
+pub mod Bracketed
+pub mod Clauses
+pub mod Displays
+pub mod Lists
+pub mod Dicts
+pub mod Atoms
 pub mod Words
 pub mod Closing
 pub mod Chains
@@ -18,12 +24,6 @@ pub mod LineMatches
 pub mod StatementParts
 pub mod Marks
 pub mod Relining
-pub mod Bracketed
-pub mod Clauses
-pub mod Displays
-pub mod Lists
-pub mod Dicts
-pub mod Atoms
 pub mod Openings
 pub mod Blocks
 pub mod Headers

@@ -3,10 +3,8 @@ use Rattle.std.proofs.Common.{◌≡◌, ◌≢◌, ◌∙◌, ℕ, zero, suc, B
 use Rattle.std.specs.List.{flat_map, AllByRecursion}
 use Rattle.star_syntax.specs.declared.token.Token.{Token}
 use Rattle.star_syntax.specs.declared.token.Token.TheVariants as t
-use Rattle.star_syntax.specs.declared.token.Mark.{Mark}
 use Rattle.star_syntax.specs.declared.token.Mark.TheVariants as m
 use Rattle.star_syntax.specs.declared.token.Keyword.TheVariants as w
-use Rattle.star_syntax.specs.declared.operator.BinaryOp.{BinaryOp}
 use Rattle.star_syntax.specs.declared.operator.BinaryOp.TheVariants as binary
 use Rattle.star_syntax.specs.declared.operator.UnaryOp.{UnaryOp}
 use Rattle.star_syntax.specs.declared.operator.UnaryOp.TheVariants as sign
@@ -15,14 +13,13 @@ use Rattle.star_syntax.specs.declared.operator.CompareOp.TheVariants as cmp
 use Rattle.star_syntax.specs.declared.expression.ChainOp.{ChainOp}
 use Rattle.star_syntax.specs.declared.expression.ChainOp.TheVariants as op
 use Rattle.star_syntax.specs.declared.expression.Link.{Link}
-use Rattle.star_syntax.specs.declared.expression.Named.{Named}
 use Rattle.star_syntax.specs.declared.expression.Pair.{Pair}
 use Rattle.star_syntax.specs.declared.expression.Arguments.{Arguments}
 use Rattle.star_syntax.specs.declared.expression.Clause.{Clause}
 use Rattle.star_syntax.specs.declared.expression.Clause.TheVariants.{For, If}
 use Rattle.star_syntax.specs.declared.expression.Suffix.{Suffix}
 use Rattle.star_syntax.specs.declared.expression.Suffix.TheVariants.{Index, Slice, Call, Method}
-use Rattle.star_syntax.specs.declared.expression.Expr.{Expr, roll-Expr}
+use Rattle.star_syntax.specs.declared.expression.Expr.{Expr}
 use Rattle.star_syntax.specs.declared.expression.Expr.TheOpen.{Expr-F}
 use Rattle.star_syntax.specs.Spelling.{Tokens, expr_spelling, tests_spelling, default_spelling, listed, sign_token, chain_token, compare_tokens, if_written}
 use Rattle.star_syntax.specs.SpellingOfParts.{parts_spelling, optional_spelling, expr_step_spelling, expr_suffix_spelling, expr_arguments_spelling, expr_link_spelling, expr_clause_spelling, expr_pair_spelling}
@@ -62,6 +59,7 @@ Without q = AllByRecursion (λ k. k ≢ q)
 
 -- ---- lists
 
+-- what holds of the elements of two lists, and of the images of elements
 pub all_joined : {A : Type 0} (P : A → Type 0) (a b : List A) → AllByRecursion P a → AllByRecursion P b → AllByRecursion P (a ++ b)
 all_joined P [] b x y = y
 all_joined P (k ∷ a) b x y = (x.0, all_joined P a b x.1 y)
@@ -70,6 +68,7 @@ pub all_mapped : {A B : Type 0} (P : A → Type 0) (Q : B → Type 0) (f : A →
 all_mapped P Q f each [] h = tt
 all_mapped P Q f each (x ∷ xs) h = (each x h.0, all_mapped P Q f each xs h.1)
 
+-- lists of tokens that stand in expressions
 pub joined : (a b : Tokens) → Within a → Within b → Within (a ++ b)
 joined a b x y = all_joined (λ k. within k ≡ true) a b x y
 
@@ -109,11 +108,13 @@ step (Some x) h = (refl, optional x h)
 
 arguments : (given : Arguments Expr) → EachArgument Clean given → Within (expr_arguments_spelling given)
 unfolding Clean
-arguments given h =
-    (refl, closed _ given.comma (t.Mark m.CloseRound) refl (listed_within (map expr_spelling given.positional ++ map default_spelling given.named)
-    (all_joined Within (map expr_spelling given.positional) (map default_spelling given.named)
-    (all_mapped Clean Within expr_spelling (λ x held. held) given.positional h.0)
-    (all_mapped (λ named. Clean named.value) Within default_spelling (λ x held. (refl, (refl, held))) given.named h.1))))
+arguments given h = (
+  refl,
+  closed _ given.comma (t.Mark m.CloseRound) refl (listed_within (map expr_spelling given.positional ++ map default_spelling given.named)
+      (all_joined Within (map expr_spelling given.positional) (map default_spelling given.named)
+      (all_mapped Clean Within expr_spelling (λ x held. held) given.positional h.0)
+      (all_mapped (λ named. Clean named.value) Within default_spelling (λ x held. (refl, (refl, held))) given.named h.1))),
+)
 
 suffix : (x : Suffix Expr) → EachSuffix Clean x → Within (expr_suffix_spelling x)
 unfolding Clean
@@ -185,9 +186,14 @@ node (Expr-F.ListOver item xs) h =
     (refl, joined (expr_spelling item) _ h.0 (joined (flat_map expr_clause_spelling xs) _ (flat_within (EachClause Clean) expr_clause_spelling clause xs h.1) (refl, tt)))
 node (Expr-F.Dict xs b) h =
     (refl, closed (listed (map expr_pair_spelling xs)) b (t.Mark m.CloseCurly) refl (listed_within (map expr_pair_spelling xs) (all_mapped (EachPair Clean) Within expr_pair_spelling pair xs h)))
-node (Expr-F.DictOver key value xs) h =
-    (refl, joined (expr_spelling key) _ h.0 (refl, joined (expr_spelling value) _ h.1
-    (joined (flat_map expr_clause_spelling xs) _ (flat_within (EachClause Clean) expr_clause_spelling clause xs h.2) (refl, tt))))
+node (Expr-F.DictOver key value xs) h = (
+  refl,
+  joined (expr_spelling key) _ h.0 (
+    refl,
+    joined (expr_spelling value) _ h.1
+        (joined (flat_map expr_clause_spelling xs) _ (flat_within (EachClause Clean) expr_clause_spelling clause xs h.2) (refl, tt)),
+  ),
+)
 node (Expr-F.Primary head xs) h = joined (expr_spelling head) _ h.0 (flat_within (EachSuffix Clean) expr_suffix_spelling suffix xs h.1)
 node (Expr-F.Signed xs operand) h = joined (map sign_token xs) _ (signs xs) h
 node (Expr-F.Chain l first xs) h = joined (expr_spelling first) _ h.0 (flat_within (EachLink Clean) expr_link_spelling link xs h.1)
@@ -197,6 +203,7 @@ node (Expr-F.Conditional value condition other) h = joined (expr_spelling value)
 
 -- ---- whole expressions
 
+-- each token of an expression, of expressions and of expressions with commas between stands in some expression
 pub expr_within : (x : Expr) → Within (expr_spelling x)
 unfolding Clean
 expr_within = induct Clean (λ d each. subst Within (sym (spells_parts d)) (node d each))
@@ -212,6 +219,7 @@ tests_within xs = listed_within (map expr_spelling xs) (exprs_within xs)
 pub not_within : (q k : Token) → within q ≡ false → within k ≡ true → k ≢ q
 not_within q k out held is = let a : within k ≡ within q = ap within is in let b : true ≡ false = sym held ∙ a ∙ out in cc
 
+-- so it is none of the tokens that stand in no expression
 pub without : (q : Token) → within q ≡ false → (ts : Tokens) → Within ts → Without q ts
 without q out [] h = tt
 without q out (k ∷ ts) h = (not_within q k out h.0, without q out ts h.1)

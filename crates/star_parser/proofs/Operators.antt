@@ -1,5 +1,5 @@
 -- Comparisons, conditionals, signs and `not` are read exactly.
-use Rattle.std.proofs.Common.{◌≡◌, ◌≢◌, ◌∙◌, ◌⊎◌, inl, inr, ℕ, zero, suc, ◌+◌, ◌≤◌, ◌<◌, Bool, true, false, List, [], ◌∷◌, ◌++◌, map, replicate, Option, Some, None, Result, Ok, Err, refl, sym, ap, subst, arith, rules, append_assoc, length}
+use Rattle.std.proofs.Common.{◌≡◌, ◌∙◌, ◌⊎◌, inl, inr, ℕ, ◌≤◌, ◌<◌, [], ◌∷◌, ◌++◌, Option, Some, None, Ok, refl, sym, ap, subst, arith, length}
 use Rattle.std.proofs.lemmas.List.{append-nil}
 use Rattle.std.specs.Prelude.{if◌then◌else◌}
 use Rattle.star_syntax.specs.declared.token.Token.{Token}
@@ -9,7 +9,7 @@ use Rattle.star_syntax.specs.declared.token.Mark.TheVariants as m
 use Rattle.star_syntax.specs.declared.token.Spanned.{Spanned}
 use Rattle.star_syntax.specs.declared.operator.CompareOp.{CompareOp}
 use Rattle.star_syntax.specs.declared.operator.CompareOp.TheVariants as cmp
-use Rattle.star_syntax.specs.declared.expression.Expr.{Expr, out-Expr, roll-Expr}
+use Rattle.star_syntax.specs.declared.expression.Expr.{Expr, roll-Expr}
 use Rattle.star_syntax.specs.declared.expression.Expr.TheOpen.{Expr-F}
 use Rattle.star_syntax.specs.declared.expression.Expr.TheVariants as e
 use Rattle.star_syntax.specs.Spelling.{Tokens, expr_spelling, compare_tokens}
@@ -18,19 +18,20 @@ use Rattle.star_syntax.specs.Levels.{IsLevelled, Fits, rank, layer_rank}
 use Rattle.star_syntax.proofs.Levelled.{Each}
 use Rattle.star_parser.specs.declared.level.Level.{Level}
 use Rattle.star_parser.specs.declared.level.Level.TheVariants as level
-use Rattle.star_parser.specs.Reading.{Input, Outcome, Reader, and_then, ◌>>=◌, ◌>>◌, pure, refuse, next, rest, peek, skip, kinds}
+use Rattle.star_parser.specs.Reading.{Input, Reader, ◌>>=◌, ◌>>◌, pure, next, skip, kinds}
 use Rattle.star_parser.specs.Tables.{compare_op, expect_word, eat_word}
 use Rattle.star_parser.specs.Readers.{compared, compare_by, compare, conditional, test}
-use Rattle.star_parser.specs.Ends.{reach, Ends, level_rank}
-use Rattle.star_parser.proofs.Exact.{Exact, Reads, Refuses, Then, Just, exact_refuse, exact_then, exact_by, exact_same, exact_pure}
+use Rattle.star_parser.specs.Ends.{reach, Ends}
+use Rattle.star_parser.proofs.Exact.{Exact, Then, Just, exact_then, exact_by, exact_same, exact_pure}
 use Rattle.star_parser.proofs.Steps.{Tok, exact_skip, some_token, exact_token_then, exact_last, exact_expect_word, exact_eat_word}
 use Rattle.star_parser.proofs.Words.{exact_word_then}
-use Rattle.star_parser.proofs.Rules.{IsExpr, lower, kinds_split, kinds_cons, kinds_none, kinds_append, next_kind, length_after, length_less, some_is}
+use Rattle.star_parser.proofs.Rules.{IsExpr, lower, kinds_split, kinds_cons, kinds_append, length_after, length_less, some_is}
 use Rattle.star_parser.proofs.Chains.{ReadsBelow, rank_few}
-use Rattle.star_parser.proofs.First.{Node, node_or_higher, made_is, last_there, last_back}
+use Rattle.star_parser.proofs.First.{node_or_higher, made_is, last_there, last_back}
 
 -- ---- the tokens of comparisons
 
+-- the token by which a comparison is known
 abbrev pub first_token : CompareOp → Token
 first_token cmp.Equal = t.Mark m.Equal
 first_token cmp.NotEqual = t.Mark m.NotEqual
@@ -105,6 +106,7 @@ Right left o = Side left o
 abbrev Compared : Expr → CompareOp → Expr → Input → Type 0
 Compared left o = Then (Tok (first_token o)) (λ _. Right left o)
 
+-- what follows the left side: nothing, or an operator and the right side
 abbrev CompareTail : Expr → Expr → Input → Type 0
 CompareTail left x c = Just left x c ⊎ ((o : CompareOp) × Compared left o x c)
 
@@ -253,6 +255,7 @@ module _ (expr : Level → Reader Expr) (bound : ℕ) (operands : ReadsBelow exp
   compare_tail_exact left ts few (Some cmp.AtLeast) is = operator_exact left ts cmp.AtLeast is (compared expr left cmp.AtLeast) (λ left2 less. side_exact left cmp.AtLeast left2 (omega arith))
   compare_tail_exact left ts few (Some cmp.Within) is = operator_exact left ts cmp.Within is (compared expr left cmp.Within) (λ left2 less. side_exact left cmp.Within left2 (omega arith))
 
+  -- comparisons are read exactly, if their sides are
   pub compare_exact : (ts : Input) → length ts ≤ bound → Exact (IsExpr 4) (Ends 4) ts (compare expr ts)
   unfolding compare Ends
   compare_exact ts few = exact_same (Then (IsExpr 5) CompareTail) (IsExpr 4) (Ends 4) compare_there compare_back ts _
@@ -272,12 +275,15 @@ module _ (expr : Level → Reader Expr) (bound : ℕ) (operands : ReadsBelow exp
 abbrev Other : Expr → Expr → Expr → Input → Type 0
 Other value condition = Then (IsExpr 0) (λ other. Just (e.Conditional value condition other))
 
+-- `else` and the other value
 abbrev AfterCondition : Expr → Expr → Expr → Input → Type 0
 AfterCondition value condition = Then (Tok (t.Word w.Else)) (λ _. Other value condition)
 
+-- after the value and `if`
 abbrev Conditioned : Expr → Expr → Input → Type 0
 Conditioned value = Then (IsExpr 1) (AfterCondition value)
 
+-- what follows the value: nothing, or `if` and the rest
 abbrev TestTail : Expr → Expr → Input → Type 0
 TestTail value x c = Just value x c ⊎ Then (Tok (t.Word w.If)) (λ _. Conditioned value) x c
 
@@ -374,6 +380,7 @@ module _ (expr : Level → Reader Expr) (bound : ℕ) (ors : ReadsBelow expr bou
       (tests left2 (let a = length_after ts taken left split in let b = length_less left taken2 left2 split2 (λ none. let f : [] ≡ s ∷ [] = sym none ∙ one in cc) in omega arith))
       (λ other left3 taken3 split3 _. exact_pure (e.Conditional value condition other) (Ends 0) left3)))
 
+  -- conditionals are read exactly, if their parts are
   pub test_exact : (ts : Input) → length ts ≤ bound → Exact (IsExpr 0) (Ends 0) ts (test expr ts)
   unfolding test Ends
   test_exact ts few = exact_same (Then (IsExpr 1) TestTail) (IsExpr 0) (Ends 0) test_there test_back ts _

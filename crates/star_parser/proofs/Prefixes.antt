@@ -1,33 +1,31 @@
 -- Signs and `not` before an operand are read exactly.
-use Rattle.std.proofs.Common.{◌≡◌, ◌≢◌, ◌∙◌, ◌⊎◌, inl, inr, ℕ, zero, suc, ◌+◌, ◌≤◌, ◌<◌, Bool, true, false, List, [], ◌∷◌, ◌++◌, map, replicate, Option, Some, None, Result, Ok, Err, refl, sym, ap, subst, arith, rules, append_assoc, length}
+use Rattle.std.proofs.Common.{◌≡◌, ◌≢◌, ◌∙◌, inl, inr, ℕ, zero, suc, ◌+◌, ◌≤◌, ◌<◌, List, [], ◌∷◌, ◌++◌, map, replicate, Option, Some, None, Ok, refl, sym, ap, subst, arith, append_assoc, length}
 use Rattle.std.proofs.lemmas.List.{append-nil}
-use Rattle.std.specs.Prelude.{if◌then◌else◌}
 use Rattle.star_syntax.specs.declared.token.Token.{Token}
 use Rattle.star_syntax.specs.declared.token.Token.TheVariants as t
 use Rattle.star_syntax.specs.declared.token.Keyword.TheVariants as w
 use Rattle.star_syntax.specs.declared.token.Mark.TheVariants as m
-use Rattle.star_syntax.specs.declared.token.Spanned.{Spanned}
 use Rattle.star_syntax.specs.declared.operator.UnaryOp.{UnaryOp}
 use Rattle.star_syntax.specs.declared.operator.UnaryOp.TheVariants as sign
-use Rattle.star_syntax.specs.declared.expression.Expr.{Expr, out-Expr, roll-Expr}
+use Rattle.star_syntax.specs.declared.expression.Expr.{Expr, roll-Expr}
 use Rattle.star_syntax.specs.declared.expression.Expr.TheOpen.{Expr-F}
 use Rattle.star_syntax.specs.declared.expression.Expr.TheVariants as e
-use Rattle.star_syntax.specs.Spelling.{Tokens, expr_spelling, sign_token}
+use Rattle.star_syntax.specs.Spelling.{expr_spelling, sign_token}
 use Rattle.star_syntax.specs.SpellingOfParts.{parts_spelling}
-use Rattle.star_syntax.specs.Levels.{IsLevelled, Fits, rank, layer_rank, chain_rank}
+use Rattle.star_syntax.specs.Levels.{IsLevelled, Fits, rank, layer_rank}
 use Rattle.star_syntax.proofs.Levelled.{Each}
 use Rattle.star_parser.specs.declared.level.Level.{Level}
 use Rattle.star_parser.specs.declared.level.Level.TheVariants as level
-use Rattle.star_parser.specs.Reading.{Input, Outcome, Reader, and_then, ◌>>=◌, ◌>>◌, pure, refuse, next, rest, peek, skip, kinds}
+use Rattle.star_parser.specs.Reading.{Input, Reader, ◌>>=◌, pure, next, kinds}
 use Rattle.star_parser.specs.Tables.{sign_of, signs_by, signs_from, nots_from}
 use Rattle.star_parser.specs.Readers.{unary, with_signs, negated, with_nots}
 use Rattle.star_parser.specs.Starts.{starts}
-use Rattle.star_parser.specs.Ends.{reach, Ends, level_rank}
-use Rattle.star_parser.proofs.Exact.{Exact, Reads, Refuses, Then, Just, exact_refuse, exact_then, exact_by, exact_same, exact_pure}
-use Rattle.star_parser.proofs.Steps.{Tok, exact_skip, some_token, exact_token_then, exact_last, exact_eat_word}
-use Rattle.star_parser.proofs.Rules.{IsExpr, lower, kinds_split, kinds_cons, kinds_none, kinds_append, next_kind, length_after, length_less, some_is}
+use Rattle.star_parser.specs.Ends.{Ends}
+use Rattle.star_parser.proofs.Exact.{Exact, Then, Just, exact_then, exact_by, exact_same, exact_pure}
+use Rattle.star_parser.proofs.Steps.{Tok, exact_token_then, exact_last, exact_eat_word}
+use Rattle.star_parser.proofs.Rules.{IsExpr, kinds_split, kinds_cons, kinds_none, kinds_append, next_kind, length_after, some_is}
 use Rattle.star_parser.proofs.Chains.{ReadsBelow, rank_few}
-use Rattle.star_parser.proofs.First.{Node, node_or_higher, made_is, last_there, last_back, first_of}
+use Rattle.star_parser.proofs.First.{node_or_higher, made_is, last_there, last_back, first_of}
 
 -- ---- signs
 
@@ -64,11 +62,13 @@ primary_unsigned x c more h =
     let (s, c', is, high) = first_of 11 x c h in
     ap (λ v. sign_of (next (v ++ more))) is ∙ no_sign_by s.token (sign_of (Some s.token)) refl high
 
+-- what was found, and after it signs that the tokens spell
 pub record AreSigns (found all : List UnaryOp) (c : Input) : Type 0 where
   pub signs : List UnaryOp
   pub whole : all ≡ found ++ signs
   pub spelt : kinds c ≡ map sign_token signs
 
+-- a sign, and more after it
 abbrev Signed : List UnaryOp → UnaryOp → List UnaryOp → Input → Type 0
 Signed found o = Then (Tok (sign_token o)) (λ _. AreSigns (found ++ o ∷ []))
 
@@ -113,6 +113,7 @@ signs_exact zero found [] few = sign_step (λ _. pure []) found [] (λ f left le
 signs_exact zero found (s ∷ ts) few = absurd (omega arith)
 signs_exact (suc n) found ts few = sign_step (signs_from n) found ts (λ f left less. signs_exact n f left (omega arith)) (sign_of (next ts)) refl
 
+-- signs, perhaps none, and the operand
 abbrev Unary : Expr → Input → Type 0
 Unary = Then (AreSigns []) (λ signs. Then (IsExpr 11) (λ operand. Just (with_signs signs operand)))
 
@@ -152,6 +153,7 @@ unary_back x c h = elim (node_or_higher 10 x c h) [
 ]
 
 module _ (expr : Level → Reader Expr) (bound : ℕ) (primaries : ReadsBelow expr bound level.Primary) where
+  -- signs and their operand are read exactly, if primaries are
   pub unary_exact : (ts : Input) → length ts ≤ bound → Exact (IsExpr 10) (Ends 10) ts (unary expr ts)
   unfolding unary Ends
   unary_exact ts few = exact_same Unary (IsExpr 10) (Ends 10) unary_there unary_back ts _
@@ -164,6 +166,7 @@ module _ (expr : Level → Reader Expr) (bound : ℕ) (primaries : ReadsBelow ex
 
 -- ---- `not`
 
+-- no `not` comes next
 abbrev NoNot : Input → Type 0
 NoNot more = next more ≢ Some (t.Word w.Not)
 
@@ -173,6 +176,7 @@ pub record AreNots (count all : ℕ) (c : Input) : Type 0 where
   pub whole : all ≡ count + nots
   pub spelt : kinds c ≡ replicate nots (t.Word w.Not)
 
+-- a `not`, and more after it
 abbrev OneMore : ℕ → ℕ → Input → Type 0
 OneMore count = Then (Tok (t.Word w.Not)) (λ _. AreNots (count + 1))
 
@@ -210,6 +214,7 @@ nots_exact (suc n) count ts few =
     (λ other. exact_by (Just count) (AreNots count) NoNot ts (no_more_there count)
     (λ all c more h ends look. no_more_by count all c more h.nots h.whole h.spelt (λ a. other (sym look ∙ a))) _ (exact_pure count NoNot ts))
 
+-- `not` any number of times, and the operand
 abbrev Negated : Expr → Input → Type 0
 Negated = Then (AreNots 0) (λ count. Then (IsExpr 4) (λ operand. Just (with_nots count operand)))
 
@@ -247,6 +252,7 @@ negated_back x c h = elim (node_or_higher 3 x c h) [
 ]
 
 module _ (expr : Level → Reader Expr) (bound : ℕ) (comparisons : ReadsBelow expr bound level.Compare) where
+  -- `not` and its operand are read exactly, if comparisons are
   pub negated_exact : (ts : Input) → length ts ≤ bound → Exact (IsExpr 3) (Ends 3) ts (negated expr ts)
   unfolding negated Ends
   negated_exact ts few = exact_same Negated (IsExpr 3) (Ends 3) negated_there negated_back ts _

@@ -1,5 +1,5 @@
 -- Indices, slices, calls and methods after an atom are read exactly.
-use Rattle.std.proofs.Common.{◌≡◌, ◌≢◌, ◌∙◌, ◌⊎◌, inl, inr, ℕ, zero, suc, ◌+◌, ◌≤◌, ◌<◌, Bool, true, false, List, [], ◌∷◌, ◌++◌, map, Option, Some, None, Result, Ok, Err, refl, sym, ap, subst, arith, rules, append_assoc, length}
+use Rattle.std.proofs.Common.{◌≡◌, ◌≢◌, ◌∙◌, ◌⊎◌, inl, inr, ℕ, zero, suc, ◌≤◌, ◌<◌, Bool, true, false, List, [], ◌∷◌, ◌++◌, Option, Some, None, Ok, refl, sym, ap, subst, arith, append_assoc, length}
 use Rattle.std.proofs.lemmas.List.{append-nil}
 use Rattle.std.specs.Prelude.{if◌then◌else◌}
 use Rattle.std.specs.List.{flat_map, AllByRecursion}
@@ -11,7 +11,7 @@ use Rattle.star_syntax.specs.declared.token.Spanned.{Spanned}
 use Rattle.star_syntax.specs.declared.expression.Arguments.{Arguments}
 use Rattle.star_syntax.specs.declared.expression.Suffix.{Suffix}
 use Rattle.star_syntax.specs.declared.expression.Suffix.TheVariants.{Index, Slice, Call, Method}
-use Rattle.star_syntax.specs.declared.expression.Expr.{Expr, out-Expr, roll-Expr}
+use Rattle.star_syntax.specs.declared.expression.Expr.{Expr, roll-Expr}
 use Rattle.star_syntax.specs.declared.expression.Expr.TheOpen.{Expr-F}
 use Rattle.star_syntax.specs.declared.expression.Expr.TheVariants as e
 use Rattle.star_syntax.specs.Spelling.{Tokens, expr_spelling}
@@ -20,23 +20,26 @@ use Rattle.star_syntax.specs.Levels.{IsLevelled, Fits, SuffixFits, rank, layer_r
 use Rattle.star_syntax.proofs.Levelled.{Each, EachSuffix, EachOption, EachStep}
 use Rattle.star_parser.specs.declared.level.Level.{Level}
 use Rattle.star_parser.specs.declared.level.Level.TheVariants as level
-use Rattle.star_parser.specs.Reading.{Input, Outcome, Reader, and_then, ◌>>=◌, ◌>>◌, pure, refuse, next, rest, peek, skip, kinds}
-use Rattle.star_parser.specs.Tables.{is_mark, eat, expect, expect_name}
+use Rattle.star_parser.specs.Reading.{Input, Reader, and_then, ◌>>=◌, ◌>>◌, pure, next, skip, kinds}
+use Rattle.star_parser.specs.Tables.{is_mark, eat, expect}
 use Rattle.star_parser.specs.Readers.{bound, slice_after, index_after, index, arguments, method, suffixes_from, primary, with_suffixes, atom}
 use Rattle.star_parser.specs.Starts.{starts}
 use Rattle.star_parser.specs.Ends.{reach, Ends}
-use Rattle.star_parser.proofs.Exact.{Exact, Then, Just, exact_refuse, exact_then, exact_by, exact_same, exact_pure, exact_ends}
+use Rattle.star_parser.proofs.Exact.{Exact, Then, Just, exact_then, exact_by, exact_same, exact_pure}
 use Rattle.star_parser.proofs.Steps.{Tok, some_token, mark_is, is_mark_itself, exact_token_then, exact_expected_then, exact_last, exact_eat, token_next}
 use Rattle.star_parser.proofs.Words.{NameToken, some_name, exact_name_then}
-use Rattle.star_parser.proofs.Closing.{Any, Closed, closed_there, closed_back, some_closed, closed_exact, not_first, token_spelt, token_ends}
-use Rattle.star_parser.proofs.Rules.{IsExpr, lower, kinds_split, kinds_cons, kinds_none, kinds_append, next_kind, length_after, length_less, some_is}
-use Rattle.star_parser.proofs.First.{Node, node_or_higher, made_is, last_there, last_back, first_of}
-use Rattle.star_parser.proofs.Chains.{Below, rank_few}
+use Rattle.star_parser.proofs.Bracketed.{Any, Inside, Closes, closes_there, closes_back, some_closes, not_first}
+use Rattle.star_parser.proofs.Closing.{token_spelt, token_ends}
+use Rattle.star_parser.proofs.Rules.{IsExpr, kinds_split, kinds_cons, kinds_none, kinds_append, length_after, some_is}
+use Rattle.star_parser.proofs.First.{node_or_higher, made_is, last_there, last_back, first_of}
+use Rattle.star_parser.proofs.Chains.{rank_few}
 use Rattle.star_parser.proofs.Arguments.{IsGiven, some_given, arguments_exact, ending}
 
+-- the mark between the bounds of a slice
 abbrev colon : Token
 colon = t.Mark m.Colon
 
+-- the bracket that ends an index or a slice
 abbrev square : Token
 square = t.Mark m.CloseSquare
 
@@ -78,6 +81,7 @@ OpensWith k x c = IsSuffix x c × (opening x ≡ k)
 
 -- ---- what may be left out in a slice
 
+-- nothing, or an expression
 abbrev IsBound : Option Expr → Input → Type 0
 IsBound None c = c ≡ []
 IsBound (Some x) c = IsExpr 0 x c
@@ -90,10 +94,11 @@ bound_back : (b : Option Expr) (c : Input) → EachOption IsLevelled b → kinds
 bound_back None c levelled spelt = kinds_none c spelt
 bound_back (Some x) c levelled spelt = record { levelled = levelled; high = omega arith; spelt = spelt }
 
--- what follows a bound, and what follows the last one
+-- what follows a bound
 abbrev BoundEnds : Input → Type 0
 BoundEnds more = (next more ≡ Some colon) ⊎ (next more ≡ Some square)
 
+-- what follows the last one
 abbrev LastEnds : Input → Type 0
 LastEnds more = next more ≡ Some square
 
@@ -112,7 +117,7 @@ left_out E ts k here none =
   where
     absent : (b : Option Expr) (c more : Input) → IsBound b c → E more → next (c ++ more) ≡ next ts → Just None b c
     absent None c more empty ends look = (refl, empty)
-    absent (Some x) c more r ends look = absurd (not_first k none 0 x c more r (look ∙ here))
+    absent (Some x) c more r ends look = absurd (not_first k none c more (first_of 0 x c r) (look ∙ here))
 
 -- an expression comes, for what may follow a bound does not
 written : (expr : Level → Reader Expr) (E : Input → Type 0) (ts : Input) → ((more : Input) → E more → Ends 0 more) → ((more : Input) → E more → next more ≢ next ts)
@@ -122,6 +127,7 @@ written expr E ts narrow not_here reads =
   where
     there : (b : Option Expr) (c : Input) → Then (IsExpr 0) (λ x. Just (Some x)) b c → IsBound b c
     there b c h = let (x, r, is) = last_there (IsExpr 0) (λ x. Some x) b c h in subst (λ v. IsBound v c) (sym is) r
+
     back : (b : Option Expr) (c more : Input) → IsBound b c → E more → next (c ++ more) ≡ next ts → Then (IsExpr 0) (λ x. Just (Some x)) b c
     back None c more empty ends look = absurd (not_here more ends (ap (λ v. next (v ++ more)) (sym empty) ∙ look))
     back (Some x) c more r ends look = last_back (IsExpr 0) (λ x. Some x) (Some x) c x r refl
@@ -150,10 +156,11 @@ bound_by expr ts reads false false is_colon is_square =
 
 -- after the second colon
 abbrev Stepped : Option Expr → Option Expr → Suffix Expr → Input → Type 0
-Stepped start stop = Then IsBound (λ step. Closed square (Slice start stop (Some step)))
+Stepped start stop = Then IsBound (λ step. Closes m.CloseSquare (Slice start stop (Some step)))
 
+-- after the upper bound
 abbrev SliceRest : Option Expr → Option Expr → Suffix Expr → Input → Type 0
-SliceRest start stop x c = Then (Tok colon) (λ _. Stepped start stop) x c ⊎ Closed square (Slice start stop None) x c
+SliceRest start stop x c = Then (Tok colon) (λ _. Stepped start stop) x c ⊎ Closes m.CloseSquare (Slice start stop None) x c
 
 -- after the first colon
 abbrev Sliced : Option Expr → Suffix Expr → Input → Type 0
@@ -172,7 +179,7 @@ sliced_there : (start : Option Expr) (x : Suffix Expr) (c : Input) → Sliced st
 sliced_there start x c (stop, c1, c2, r, inl (u, c3, c4, (s, is, one), (step, c5, c6, r2, closed, split3), split2), split) =
     let (levelled, spelt) = bound_there stop c1 r in
     let (levelled2, spelt2) = bound_there step c5 r2 in
-    let (x_is, spelt3) = closed_there square (Slice start stop (Some step)) x c6 closed in
+    let (x_is, spelt3) = closes_there m.CloseSquare (Slice start stop (Some step)) x c6 closed in
     let k : kinds c4 ≡ optional_spelling step ++ square ∷ [] =
     ap kinds split3 ∙ kinds_append c5 c6 ∙ ap (λ v. v ++ kinds c6) spelt2 ∙ ap (λ v. optional_spelling step ++ v) spelt3 in
     record {
@@ -186,7 +193,7 @@ sliced_there start x c (stop, c1, c2, r, inl (u, c3, c4, (s, is, one), (step, c5
     }
 sliced_there start x c (stop, c1, c2, r, inr closed, split) =
     let (levelled, spelt) = bound_there stop c1 r in
-    let (x_is, spelt2) = closed_there square (Slice start stop None) x c2 closed in
+    let (x_is, spelt2) = closes_there m.CloseSquare (Slice start stop None) x c2 closed in
     record {
       stop = stop;
       step = None;
@@ -200,7 +207,7 @@ sliced_by : (start : Option Expr) (x : Suffix Expr) (c : Input) (stop : Option E
     → EachOption IsLevelled stop → EachStep IsLevelled step → kinds c ≡ after_colon stop step → Sliced start x c
 sliced_by start x c stop None whole stop_levelled step_levelled spelt =
     let (c1, c2, split, is1, is2) = kinds_split c (optional_spelling stop) (square ∷ []) spelt in
-    (stop, c1, c2, bound_back stop c1 stop_levelled is1, inr (closed_back square (Slice start stop None) x c2 whole is2), split)
+    (stop, c1, c2, bound_back stop c1 stop_levelled is1, inr (closes_back m.CloseSquare (Slice start stop None) x c2 whole is2), split)
 sliced_by start x c stop (Some step) whole stop_levelled step_levelled spelt =
     let (c1, c2, split, is1, is2) = kinds_split c (optional_spelling stop) (colon ∷ (optional_spelling step ++ square ∷ [])) spelt in
     let (s, c3, split2, is3, is4) = kinds_cons c2 colon (optional_spelling step ++ square ∷ []) is2 in
@@ -209,22 +216,23 @@ sliced_by start x c stop (Some step) whole stop_levelled step_levelled spelt =
       c1,
       c2,
       bound_back stop c1 stop_levelled is1,
-      inl (tt, s ∷ [], c3, (s, is3, refl), (step, c4, c5, bound_back step c4 step_levelled is5, closed_back square (Slice start stop (Some step)) x c5 whole is6, split3), split2),
+      inl (tt, s ∷ [], c3, (s, is3, refl), (step, c4, c5, bound_back step c4 step_levelled is5, closes_back m.CloseSquare (Slice start stop (Some step)) x c5 whole is6, split3), split2),
       split,
     )
 
 some_stepped : (start stop : Option Expr) → (x : Suffix Expr) × (c : Input) × Stepped start stop x c
-some_stepped start stop = let (y, d, q) = some_closed square (Slice start stop (Some None)) in (y, d, (None, [], d, refl, q, refl))
+some_stepped start stop = let (y, d, q) = some_closes m.CloseSquare (Slice start stop (Some None)) in (y, d, (None, [], d, refl, q, refl))
 
 some_sliced : (start : Option Expr) → (x : Suffix Expr) × (c : Input) × Sliced start x c
-some_sliced start = let (y, d, q) = some_closed square (Slice start None None) in (y, d, (None, [], d, refl, inr q, refl))
+some_sliced start = let (y, d, q) = some_closes m.CloseSquare (Slice start None None) in (y, d, (None, [], d, refl, inr q, refl))
 
 -- ---- what stands in square brackets
 
 -- after an expression
 abbrev IndexRest : Expr → Suffix Expr → Input → Type 0
-IndexRest at x c = Then (Tok colon) (λ _. Sliced (Some at)) x c ⊎ Closed square (Index at) x c
+IndexRest at x c = Then (Tok colon) (λ _. Sliced (Some at)) x c ⊎ Closes m.CloseSquare (Index at) x c
 
+-- after `[`
 abbrev InSquare : Suffix Expr → Input → Type 0
 InSquare x c = Then (Tok colon) (λ _. Sliced None) x c ⊎ Then (IsExpr 0) IndexRest x c
 
@@ -244,7 +252,7 @@ square_there x c (inr (at, c1, c2, r, inl (u, c3, c4, (s, is, one), r2, split2),
     slice_made (Some at) x c r.levelled c4 (sliced_there (Some at) x c4 r2)
     (ap kinds split ∙ kinds_append c1 c2 ∙ ap (λ v. v ++ kinds c2) r.spelt ∙ ap (λ v. expr_spelling at ++ v) (token_spelt colon s c2 c3 c4 is one split2))
 square_there x c (inr (at, c1, c2, r, inr closed, split)) =
-    let (x_is, spelt) = closed_there square (Index at) x c2 closed in
+    let (x_is, spelt) = closes_there m.CloseSquare (Index at) x c2 closed in
     let whole : IsSuffix (Index at) c = record {
       fits = tt;
       levelled = r.levelled;
@@ -256,7 +264,7 @@ square_back : (x : Suffix Expr) (c : Input) → opening x ≡ t.Mark m.OpenSquar
 unfolding opening inside
 square_back (Index at) c is h =
     let (c1, c2, split, is1, is2) = kinds_split c (expr_spelling at) (square ∷ []) h.spelt in
-    inr (at, c1, c2, record { levelled = h.levelled; high = omega arith; spelt = is1 }, inr (closed_back square (Index at) (Index at) c2 refl is2), split)
+    inr (at, c1, c2, record { levelled = h.levelled; high = omega arith; spelt = is1 }, inr (closes_back m.CloseSquare (Index at) (Index at) c2 refl is2), split)
 square_back (Slice None stop step) c is h =
     let (s, c1, split, is1, is2) = kinds_cons c colon (after_colon stop step) h.spelt in
     inl (tt, s ∷ [], c1, (s, is1, refl), sliced_by None (Slice None stop step) c1 stop step refl h.levelled.1 h.levelled.2 is2, split)
@@ -277,14 +285,12 @@ square_back (Method name given) c is h = absurd cc
 some_square : (x : Suffix Expr) × (c : Input) × InSquare x c
 some_square =
     let (at, c, r) = some_is 0 (omega arith) in
-    let (y, d, q) = some_closed square (Index at) in
+    let (y, d, q) = some_closes m.CloseSquare (Index at) in
     (y, c ++ d, inr (at, c, d, r, inr q, refl))
 
 -- ---- calls and methods
 
-abbrev CallOf : Suffix Expr → Input → Type 0
-CallOf = Then IsGiven (λ given. Just (Call given))
-
+-- after `.`
 abbrev MethodOf : Suffix Expr → Input → Type 0
 MethodOf = Then NameToken (λ name. Then (Tok (t.Mark m.OpenRound)) (λ _. Then IsGiven (λ given. Just (Method name given))))
 
@@ -336,10 +342,12 @@ some_method =
 
 -- ---- one suffix after another
 
+-- what it holds is levelled and has commas where it may
 pub record SuffixGood (x : Suffix Expr) : Type 0 where
   pub fits : SuffixFits x
   pub levelled : EachSuffix IsLevelled x
 
+-- what was found, and after it suffixes that the tokens spell
 pub record AreSuffixes (found all : List (Suffix Expr)) (c : Input) : Type 0 where
   pub suffixes : List (Suffix Expr)
   pub whole : all ≡ found ++ suffixes
@@ -412,7 +420,7 @@ none_opens o not1 not2 not3 (Method name given) = not3
 no_more_there : (found all : List (Suffix Expr)) (c : Input) → Just found all c → AreSuffixes found all c
 no_more_there found all c (is, none) = record { suffixes = []; whole = is ∙ sym (append-nil found); fits = tt; spelt = ap kinds none }
 
-module _ (expr : Level → Reader Expr) (size : ℕ) (below : Below expr size) where
+module _ (expr : Level → Reader Expr) (size : ℕ) (below : Inside expr size) where
   bound_exact : (ts : Input) → length ts < size → Exact IsBound BoundEnds ts (bound expr ts)
   unfolding bound
   bound_exact ts few = bound_by expr ts (below level.Test ts few) (is_mark m.Colon (next ts)) (is_mark m.CloseSquare (next ts)) refl refl
@@ -420,9 +428,9 @@ module _ (expr : Level → Reader Expr) (size : ℕ) (below : Below expr size) w
   stepped_exact : (start stop : Option Expr) (p : Reader (Option Expr)) (ts : Input) → Exact IsBound LastEnds ts (p ts)
       → Exact (Stepped start stop) Any ts ((p >>= λ step. expect m.CloseSquare >>= λ _. pure (Slice start stop (Some step))) ts)
   stepped_exact start stop p ts reads =
-      exact_then IsBound (λ step. Closed square (Slice start stop (Some step))) LastEnds Any
+      exact_then IsBound (λ step. Closes m.CloseSquare (Slice start stop (Some step))) LastEnds Any
       (λ step x c1 c2 more _ closed _. token_next square (Just (Slice start stop (Some step))) x c2 more closed)
-      (λ step c r. some_closed square (Slice start stop (Some step)))
+      (λ step c r. some_closes m.CloseSquare (Slice start stop (Some step)))
       ts (p ts) (λ step. expect m.CloseSquare >>= λ _. pure (Slice start stop (Some step))) reads
       (λ step left taken split r. exact_expected_then (Just (Slice start stop (Some step))) Any (Slice start stop (Some step), [], (refl, refl)) left (pure (Slice start stop (Some step)))
       (λ left2 _. exact_pure (Slice start stop (Some step)) Any left2) m.CloseSquare)
@@ -444,7 +452,7 @@ module _ (expr : Level → Reader Expr) (size : ℕ) (below : Below expr size) w
       ((λ ts. (if is_mark m.CloseSquare (next ts) then pure None else (expr level.Test >>= λ x. pure (Some x))) ts) >>= λ step. expect m.CloseSquare >>= λ _. pure (Slice start stop (Some step)))
       (λ left less. stepped_exact start stop (λ ts. (if is_mark m.CloseSquare (next ts) then pure None else (expr level.Test >>= λ x. pure (Some x))) ts) left
       (last_by expr left (below level.Test left (omega arith)) (is_mark m.CloseSquare (next left)) refl)) here))
-      (λ other. exact_by (Closed square (Slice start stop None)) (SliceRest start stop) Any ts (λ x c j. inr j)
+      (λ other. exact_by (Closes m.CloseSquare (Slice start stop None)) (SliceRest start stop) Any ts (λ x c j. inr j)
       (λ x c more rule _ look. elim rule [ inl j ↦ absurd (other (sym look ∙ token_next colon (Stepped start stop) x c more j)) | inr j ↦ j ])
       _ (exact_expected_then (Just (Slice start stop None)) Any (Slice start stop None, [], (refl, refl)) ts (pure (Slice start stop None))
       (λ left _. exact_pure (Slice start stop None) Any left) m.CloseSquare))
@@ -458,7 +466,7 @@ module _ (expr : Level → Reader Expr) (size : ℕ) (below : Below expr size) w
   slice_exact start ts few =
       exact_then IsBound (SliceRest start) BoundEnds Any
       (λ stop x c1 c2 more _ rule _. rest_begins start stop x c2 more rule)
-      (λ stop c r. let (y, d, q) = some_closed square (Slice start stop None) in (y, d, inr q))
+      (λ stop c r. let (y, d, q) = some_closes m.CloseSquare (Slice start stop None) in (y, d, inr q))
       ts (bound expr ts) _ (bound_exact ts few)
       (λ stop left taken split r. rest_exact start stop left (let a = length_after ts taken left split in omega arith))
 
@@ -472,7 +480,7 @@ module _ (expr : Level → Reader Expr) (size : ℕ) (below : Below expr size) w
         | inr j ↦ absurd (let a : Some square ≡ Some colon = sym (token_next square (Just (Index at)) x c more j) ∙ look ∙ here in cc)
       ])
       _ (exact_token_then colon (Sliced (Some at)) Any (some_sliced (Some at)) ts (slice_after expr (Some at)) (λ left less. slice_exact (Some at) left (omega arith)) here))
-      (λ other. exact_by (Closed square (Index at)) (IndexRest at) Any ts (λ x c j. inr j)
+      (λ other. exact_by (Closes m.CloseSquare (Index at)) (IndexRest at) Any ts (λ x c j. inr j)
       (λ x c more rule _ look. elim rule [ inl j ↦ absurd (other (sym look ∙ token_next colon (Sliced (Some at)) x c more j)) | inr j ↦ j ])
       _ (exact_expected_then (Just (Index at)) Any (Index at, [], (refl, refl)) ts (pure (Index at)) (λ left _. exact_pure (Index at) Any left) m.CloseSquare))
 
@@ -482,7 +490,7 @@ module _ (expr : Level → Reader Expr) (size : ℕ) (below : Below expr size) w
 
   begins_no_colon : (x : Suffix Expr) (c more : Input) → Then (IsExpr 0) IndexRest x c → next (c ++ more) ≢ Some colon
   begins_no_colon x c more (at, c1, c2, r, later, split) is =
-      not_first colon refl 0 at c1 (c2 ++ more) r (ap next (sym (append_assoc c1 c2 more) ∙ ap (λ v. v ++ more) (sym split)) ∙ is)
+      not_first colon refl c1 (c2 ++ more) (first_of 0 at c1 r) (ap next (sym (append_assoc c1 c2 more) ∙ ap (λ v. v ++ more) (sym split)) ∙ is)
 
   index_exact : (ts : Input) → length ts < size → Exact InSquare Any ts (index expr ts)
   unfolding index
@@ -495,7 +503,7 @@ module _ (expr : Level → Reader Expr) (size : ℕ) (below : Below expr size) w
       (λ x c more rule _ look. elim rule [ inl j ↦ absurd (other (sym look ∙ token_next colon (Sliced None) x c more j)) | inr j ↦ j ])
       _ (exact_then (IsExpr 0) IndexRest (Ends 0) Any
       (λ at x c1 c2 more _ rule _. index_ends at x c2 more rule)
-      (λ at c r. let (y, d, q) = some_closed square (Index at) in (y, d, inr q))
+      (λ at c r. let (y, d, q) = some_closes m.CloseSquare (Index at) in (y, d, inr q))
       ts (expr level.Test ts) (index_after expr) (below level.Test ts few)
       (λ at left taken split r. index_after_exact at left (let a = length_after ts taken left split in omega arith))))
 
@@ -558,6 +566,7 @@ module _ (expr : Level → Reader Expr) (size : ℕ) (below : Below expr size) w
 
 -- ---- a primary
 
+-- an atom and its suffixes, perhaps none
 abbrev IsPrimary : Expr → Input → Type 0
 IsPrimary = Then (IsExpr 12) (λ head. Then (AreSuffixes []) (λ found. Just (with_suffixes head found)))
 
@@ -606,7 +615,8 @@ primary_back x c h = elim (node_or_higher 11 x c h) [
   | inr node ↦ primary_by_layer x c node.layer node.whole node.level node.fits node.each node.spelt
 ]
 
-module _ (expr : Level → Reader Expr) (size : ℕ) (below : Below expr size) (atoms : (ts : Input) → length ts ≤ size → Exact (IsExpr 12) Any ts (atom expr ts)) where
+module _ (expr : Level → Reader Expr) (size : ℕ) (below : Inside expr size) (atoms : (ts : Input) → length ts ≤ size → Exact (IsExpr 12) Any ts (atom expr ts)) where
+  -- primaries are read exactly, if atoms are, and expressions of fewer tokens
   pub primary_exact : (ts : Input) → length ts ≤ size → Exact (IsExpr 11) (Ends 11) ts (primary expr ts)
   unfolding primary
   primary_exact ts few = exact_same IsPrimary (IsExpr 11) (Ends 11) primary_there primary_back ts _

@@ -1,23 +1,18 @@
 -- Expressions are read exactly, if the depth is enough.
-use Rattle.std.proofs.Common.{◌≡◌, ℕ, zero, suc, ◌+◌, ◌*◌, ◌-◌, ◌≤◌, ◌<◌, length, refl, arith}
+use Rattle.std.proofs.Common.{ℕ, zero, suc, ◌+◌, ◌*◌, ◌<◌, length, refl, arith}
 use Rattle.star_syntax.specs.declared.expression.ChainLevel.TheVariants as chain
-use Rattle.star_syntax.specs.declared.expression.Expr.{Expr}
 use Rattle.star_parser.specs.declared.level.Level.{Level}
 use Rattle.star_parser.specs.declared.level.Level.TheVariants as level
-use Rattle.star_parser.specs.Reading.{Input, Reader}
-use Rattle.star_parser.specs.Readers.{expr, at, atom}
+use Rattle.star_parser.specs.Reading.{Input}
+use Rattle.star_parser.specs.Readers.{expr}
 use Rattle.star_parser.specs.Ends.{Ends, level_rank}
 use Rattle.star_parser.proofs.Exact.{Exact}
 use Rattle.star_parser.proofs.Rules.{IsExpr}
-use Rattle.star_parser.proofs.Chains.{chained_exact, Below}
+use Rattle.star_parser.proofs.Chains.{chained_exact}
 use Rattle.star_parser.proofs.Operators.{compare_exact, test_exact}
 use Rattle.star_parser.proofs.Prefixes.{unary_exact, negated_exact}
 use Rattle.star_parser.proofs.Suffixes.{primary_exact}
-use Rattle.star_parser.proofs.Closing.{Any}
-
--- atoms are read exactly, where expressions of each level are from fewer tokens
-atom_exact : (expr : Level → Reader Expr) (bound : ℕ) → Below expr bound → (ts : Input) → length ts ≤ bound → Exact (IsExpr 12) Any ts (atom expr ts)
-atom_exact expr bound below ts few = ?
+use Rattle.star_parser.proofs.Atoms.{atom_exact}
 
 -- Where the depth is enough for the tokens, an expression of the level that is read is the one that stands there, and the
 -- place that is refused is the first at which none goes on. One clause for each level.

@@ -1,10 +1,10 @@
 -- The readers of a word and of a name are exact.
-use Rattle.std.proofs.Common.{◌≡◌, ◌≢◌, ◌∙◌, ℕ, ◌<◌, List, [], ◌∷◌, ◌++◌, Option, Some, None, Ok, Err, refl, sym, ap, length}
+use Rattle.std.proofs.Common.{◌≡◌, ◌∙◌, ℕ, ◌<◌, List, [], ◌∷◌, ◌++◌, Option, Some, None, Err, refl, sym, ap, length}
 use Rattle.star_syntax.specs.declared.token.Token.{Token}
 use Rattle.star_syntax.specs.declared.token.Token.TheVariants as t
 use Rattle.star_syntax.specs.declared.token.Keyword.{Keyword}
 use Rattle.star_syntax.specs.declared.token.Spanned.{Spanned}
-use Rattle.star_parser.specs.Reading.{Input, Outcome, Reader, and_then, ◌>>=◌, ◌>>◌, pure, next, skip}
+use Rattle.star_parser.specs.Reading.{Input, Reader, ◌>>=◌, ◌>>◌, pure, next}
 use Rattle.star_parser.specs.Tables.{expect_word, expect_name, name_by}
 use Rattle.star_parser.proofs.Exact.{Exact, Then, Just, exact_refuse, exact_then, exact_by, exact_pure}
 use Rattle.star_parser.proofs.Steps.{Tok, some_token, exact_expect_word, exact_token_then}
@@ -13,6 +13,7 @@ use Rattle.star_parser.proofs.Rules.{length_less}
 -- a word is expected, and then the rest of a rule
 module _ {T : Type 0} (RT : T → Input → Type 0) (ET : Input → Type 0) (some : (x : T) × (c : Input) × RT x c) (ts : Input) (p : Reader T)
     (later : (left : Input) → length left < length ts → Exact RT ET left (p left)) where
+  -- the word, and then the rest
   pub exact_word_then : (w : Keyword) → Exact (Then (Tok (t.Word w)) (λ _. RT)) ET ts ((expect_word w >> p) ts)
   exact_word_then w =
       exact_then (Tok (t.Word w)) (λ _. RT) (λ _. Unit {0}) ET (λ _ _ _ _ _ _ _ _. tt) (λ _ _ _. some) ts (expect_word w ts) (λ _. p)
@@ -25,6 +26,7 @@ module _ {T : Type 0} (RT : T → Input → Type 0) (ET : Input → Type 0) (som
 abbrev pub NameToken : List ℕ → Input → Type 0
 NameToken name c = (s : Spanned) × (s.token ≡ t.Name name) × (c ≡ s ∷ [])
 
+-- some name, and its token
 abbrev pub some_name : (name : List ℕ) × (c : Input) × NameToken name c
 some_name = ([], some_token (t.Name []) ∷ [], (some_token (t.Name []), refl, refl))
 
@@ -54,6 +56,7 @@ name_by_exact Ends ts (Some (t.Name found)) here =
 name_by_exact Ends ts None here = no_name Ends ts (ap name_in here)
 name_by_exact Ends ts (Some k) here = no_name Ends ts (ap name_in here)
 
+-- a name, whichever it is
 pub exact_name : (Ends : Input → Type 0) (ts : Input) → Exact NameToken Ends ts (expect_name ts)
 unfolding expect_name
 exact_name Ends ts = name_by_exact Ends ts (next ts) refl
