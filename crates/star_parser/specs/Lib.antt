@@ -9,3 +9,4 @@ pub mod StatementTables
 pub mod StatementReaders
 pub mod Lines
 pub mod Trees
+pub mod NestsBlocks

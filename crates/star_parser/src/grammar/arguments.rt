@@ -19,7 +19,7 @@ impl<F: Fn(Global, &mut Cursor<'_>, usize, Level) -> Result<Expr, Fault>> Gramma
     /// Named arguments up to `)`, in so many turns at most, after the positional ones; the name of the
     /// first and the `=` after it are read.
     #[tactic(auto, unfolding(crate::specs::Readers::named_from))]
-    fn named_from(
+    pub fn named_from(
         &self,
         tokens: &mut Cursor<'_>,
         turns: usize,
