@@ -32,3 +32,4 @@ pub mod TestLists
 pub mod Smalls
 pub mod LineRules
 pub mod Parameters
+pub mod SliceSteps

@@ -9,4 +9,5 @@ pub mod StatementTables
 pub mod StatementReaders
 pub mod Lines
 pub mod Trees
+pub mod Slices
 pub mod NestsBlocks
