@@ -33,3 +33,4 @@ pub mod Smalls
 pub mod LineRules
 pub mod Parameters
 pub mod SliceSteps
+pub mod ArgumentSteps

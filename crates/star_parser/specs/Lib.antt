@@ -10,4 +10,5 @@ pub mod StatementReaders
 pub mod Lines
 pub mod Trees
 pub mod Slices
+pub mod ArgumentReaders
 pub mod NestsBlocks
