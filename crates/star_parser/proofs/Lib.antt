@@ -34,3 +34,4 @@ pub mod LineRules
 pub mod Parameters
 pub mod SliceSteps
 pub mod ArgumentSteps
+pub mod TargetLists

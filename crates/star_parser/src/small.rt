@@ -1,10 +1,13 @@
 //! Small statements, and the lines that they stand on.
-ghost use Rattle.std.specs.Prelude.{◌≡◌, [], length};
+ghost use Rattle.std.specs.Prelude.{◌≡◌, ◌&&◌};
 ghost use Rattle.star_parser.specs.Readers as readers;
 ghost use Rattle.star_parser.specs.StatementReaders as spec;
 ghost use Rattle.star_parser.specs.Verdict.{Reads};
 ghost use Rattle.std.specs.Option.{option_copied};
 ghost use Rattle.star_parser.specs.StatementTables as tables;
+ghost use Rattle.star_parser.specs.Reading.{next};
+ghost use Rattle.star_parser.specs.Tables.{is_mark};
+ghost use Rattle.star_syntax.specs.declared.token.Mark.TheVariants as mark;
 
 use crate::cursor::Cursor;
 use crate::fault::Fault;
@@ -57,7 +60,7 @@ impl Terms {
         let mut found = Items::new(self.alloc);
         found.push(first)?;
         let found = self.tests_after(tokens, found)?;
-        if tokens.sees(Mark::Assign) && are_targets(found.as_slice()) {
+        if assigns(tokens, found.as_slice()) {
             tokens.skip();
             return self.assigned(tokens, found);
         }
@@ -124,6 +127,14 @@ impl Terms {
         }
         Err(Fault::Unexpected)
     }
+}
+
+/// Whether `=` comes next, after tests that are all targets.
+#[tactic(auto, using(crate::proofs::TargetLists::are_targets_both))]
+fn assigns(tokens: &Cursor<'_>, found: &[Expr]) -> bool
+    ensures { result ≡ (is_mark mark.Assign (next tokens.now.rest.now) && spec.are_targets found.now) }
+{
+    tokens.sees(Mark::Assign) && are_targets(found)
 }
 
 fn line(smalls: Items<Small>, semicolon: bool) -> Line
