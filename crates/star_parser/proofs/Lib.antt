@@ -35,3 +35,8 @@ pub mod Parameters
 pub mod SliceSteps
 pub mod ArgumentSteps
 pub mod TargetLists
+pub mod Loops
+pub mod StatementsWhole
+pub mod Cells
+pub mod StatementsEnd
+pub mod Texts
