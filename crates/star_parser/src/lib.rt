@@ -10,9 +10,11 @@ pub mod fault;
 pub mod grammar;
 pub mod layout;
 pub mod level;
+pub mod parser;
 pub mod header;
 pub mod small;
 pub mod target;
 pub mod terms;
 
 pub use fault::ParseFault;
+pub use parser::{one_tree, parse};
