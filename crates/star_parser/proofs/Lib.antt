@@ -3,6 +3,7 @@ pub mod Rules
 pub mod Steps
 pub mod Turns
 pub mod First
+pub mod Targets
 pub mod Bracketed
 pub mod Clauses
 pub mod Displays
@@ -20,10 +21,6 @@ pub mod Whole
 pub mod NoEnd
 pub mod LayoutSteps
 pub mod LineMatches
-pub mod TestLists
-pub mod Smalls
-pub mod LineRules
-pub mod Parameters
 pub mod StatementParts
 pub mod Marks
 pub mod Relining
@@ -31,6 +28,13 @@ pub mod Openings
 pub mod Blocks
 pub mod Headers
 pub mod Branches
+pub mod TestLists
+pub mod Smalls
+pub mod LineRules
+pub mod Parameters
+pub mod SliceSteps
+pub mod ArgumentSteps
+pub mod TargetLists
 pub mod Loops
 pub mod StatementsWhole
 pub mod Cells

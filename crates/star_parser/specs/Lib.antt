@@ -4,7 +4,12 @@ pub mod Readers
 pub mod Ends
 pub mod Starts
 pub mod Verdict
+pub mod Nests
 pub mod StatementTables
 pub mod StatementReaders
 pub mod Lines
 pub mod Trees
+pub mod Parsing
+pub mod Slices
+pub mod ArgumentReaders
+pub mod NestsBlocks

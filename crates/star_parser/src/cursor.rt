@@ -8,6 +8,8 @@ ghost use Rattle.star_parser.specs.Verdict.{Reads};
 ghost use Rattle.star_syntax.specs.Levels as levels;
 
 use crate::fault::Fault;
+use chex_base::Text;
+use std::alloc::Global;
 use star_syntax::{
     BinaryOp, ChainLevel, ChainOp, CompareOp, Keyword, Mark, Spanned, Token, UnaryOp,
 };
@@ -110,6 +112,21 @@ impl<'a> Cursor<'a> {
             Ok(())
         } else {
             Err(Fault::Unexpected)
+        }
+    }
+
+    /// Passes a name and gives a copy of it, or refuses the next token.
+    #[tactic(auto, unfolding(crate::specs::Tables::expect_name))]
+    pub fn expect_name(&mut self, alloc: Global) -> Result<Text, Fault>
+        ensures { Reads (spec.expect_name self.old.rest.now) result self.new.rest.now }
+    {
+        match self.peek() {
+            Some(Token::Name(name)) => {
+                let name = name.copy(alloc)?;
+                self.skip();
+                Ok(name)
+            }
+            _ => Err(Fault::Unexpected),
         }
     }
 }

@@ -1,0 +1,7 @@
+use Rattle.std.proofs.Common.{◌≡◌, ◌-◌, length, []}
+use Rattle.star_parser.specs.Readers.{expr, links_from}
+use Rattle.star_parser.proofs.grammar.Grammar.links.Given as goal
+
+-- what is read from here in the turns that are left is what all is from the start
+abbrev pub invariant-loop-turn : goal.invariant-loop-turn
+invariant-loop-turn g l = links_from (expr l.self.depth) l.level l.inner (length l.fn.tokens.rest.now) [] l.fn.tokens.rest.now ≡ links_from (expr l.self.depth) l.level l.inner (l._turn-end - l._turn) l.found l.tokens.rest.now
