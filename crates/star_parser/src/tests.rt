@@ -36,7 +36,7 @@ pub fn read(alloc: Global, tokens: &[Spanned]) -> Result<Result<Module, ParseFau
 }
 
 /// What the tokens of a row are read as.
-pub fn answer(alloc: Global, row: &str) -> Result<Answer, Fail> {
+pub fn answer_to(alloc: Global, row: &str) -> Result<Answer, Fail> {
     let tokens = tokens_of(alloc, row)?;
     match read(alloc, tokens.as_slice())? {
         Ok(tree) => {

@@ -1,7 +1,7 @@
 //! Rows of expressions.
 
 use crate::tests::Answer::{At, Tree};
-use crate::tests::{Answer, answer};
+use crate::tests::{Answer, answer_to};
 use std::test::Fail;
 
 /// A row has a tree, or the least place with which no tree goes on: no cell begins with the tokens up to it,
@@ -269,7 +269,7 @@ const PRIMARIES: [(&str, Answer); 135] = [
 #[test]
 fn operators(rt: HostRuntime) -> Result<(), Fail> {
     for (row, want) in OPERATORS {
-        assert_eq!(rt; answer(rt.alloc(), row)?, want, "in {row}");
+        assert_eq!(rt; answer_to(rt.alloc(), row)?, want, "in {row}");
     }
     Ok(())
 }
@@ -277,7 +277,7 @@ fn operators(rt: HostRuntime) -> Result<(), Fail> {
 #[test]
 fn primaries(rt: HostRuntime) -> Result<(), Fail> {
     for (row, want) in PRIMARIES {
-        assert_eq!(rt; answer(rt.alloc(), row)?, want, "in {row}");
+        assert_eq!(rt; answer_to(rt.alloc(), row)?, want, "in {row}");
     }
     Ok(())
 }

@@ -3,7 +3,7 @@
 use crate::tests::Answer::Tree;
 use crate::tests::notation::tokens_of;
 use crate::tests::statement_shape::shape_of;
-use crate::tests::{answer, read};
+use crate::tests::{answer_to, read};
 use chex_base::Text;
 use std::alloc::Global;
 use std::test::Fail;
@@ -205,11 +205,11 @@ fn long_and_deep(rt: HostRuntime) -> Result<(), Fail> {
             repeated(alloc, deep_shape.as_str(), ")", 32, "))")?,
         ),
     ] {
-        assert_eq!(rt; answer(alloc, row.as_str())?, Tree, "in {row}");
+        assert_eq!(rt; answer_to(alloc, row.as_str())?, Tree, "in {row}");
         let found = shape(alloc, row.as_str())?;
         assert_eq!(rt; found.as_str(), want.as_str(), "in {row}");
     }
     let blocks = repeated(alloc, blocks.as_str(), "DE ", 32, "END")?;
-    assert_eq!(rt; answer(alloc, blocks.as_str())?, Tree, "in {blocks}");
+    assert_eq!(rt; answer_to(alloc, blocks.as_str())?, Tree, "in {blocks}");
     Ok(())
 }

@@ -1,7 +1,7 @@
 //! Rows of statements.
 
 use crate::tests::Answer::{At, Tree};
-use crate::tests::{Answer, answer};
+use crate::tests::{Answer, answer_to};
 use std::test::Fail;
 
 /// A row has a tree, or the least place with which no tree goes on: no cell begins with the tokens up to it,
@@ -231,7 +231,7 @@ const LINES: [(&str, Answer); 96] = [
 #[test]
 fn cells(rt: HostRuntime) -> Result<(), Fail> {
     for (row, want) in CELLS {
-        assert_eq!(rt; answer(rt.alloc(), row)?, want, "in {row}");
+        assert_eq!(rt; answer_to(rt.alloc(), row)?, want, "in {row}");
     }
     Ok(())
 }
@@ -239,7 +239,7 @@ fn cells(rt: HostRuntime) -> Result<(), Fail> {
 #[test]
 fn lines(rt: HostRuntime) -> Result<(), Fail> {
     for (row, want) in LINES {
-        assert_eq!(rt; answer(rt.alloc(), row)?, want, "in {row}");
+        assert_eq!(rt; answer_to(rt.alloc(), row)?, want, "in {row}");
     }
     Ok(())
 }
