@@ -32,15 +32,15 @@ use Rattle.star_parser.proofs.Rules.{IsExpr, kinds_split, kinds_cons, kinds_appe
 use Rattle.star_parser.proofs.First.{first_of}
 
 -- the bracket that ends arguments
-abbrev close : Token
+abbrev pub close : Token
 close = t.Mark m.CloseRound
 
 -- the mark between a name and its value
-abbrev assign : Token
+abbrev pub assign : Token
 assign = t.Mark m.Assign
 
 -- `name = value`
-abbrev named_as : List ℕ → Expr → Named Expr
+abbrev pub named_as : List ℕ → Expr → Named Expr
 named_as name value = record { name = name; value = value }
 
 -- a comma at the end, and the bracket
@@ -48,10 +48,10 @@ abbrev pub ending : Bool → Tokens
 ending written = if_written written m.Comma ++ close ∷ []
 
 -- phrases with a comma before each
-abbrev commas : List Tokens → Tokens
+abbrev pub commas : List Tokens → Tokens
 commas = flat_map (λ y. comma ∷ y)
 
-commas_of : (phrases : List Tokens) → phrases ≢ [] → commas phrases ≡ comma ∷ listed phrases
+pub commas_of : (phrases : List Tokens) → phrases ≢ [] → commas phrases ≡ comma ∷ listed phrases
 commas_of [] some = absurd (some refl)
 commas_of (x ∷ more) some = refl
 
@@ -83,11 +83,11 @@ name_spelt x name c is r = r.spelt ∙ ap expr_spelling is ∙ spells-Name name
 -- ---- named arguments
 
 -- each value is levelled
-abbrev NamedLevelled : List (Named Expr) → Type 0
+abbrev pub NamedLevelled : List (Named Expr) → Type 0
 NamedLevelled = AllByRecursion (λ named. IsLevelled named.value)
 
 -- what each spells
-abbrev phrases : List (Named Expr) → List Tokens
+abbrev pub phrases : List (Named Expr) → List Tokens
 phrases = map default_spelling
 
 -- after a name and `=`: the value, and more named arguments up to the bracket
@@ -187,7 +187,7 @@ named_back : (positional : List Expr) (found : List (Named Expr)) (name : List �
     → AreNamed positional found name all c → NamedWhole positional found name all c
 named_back positional found name all c h = named_by positional found name all c h.value h.others h.written h.whole h.levelled h.others_levelled h.spelt
 
-some_named : (positional : List Expr) (found : List (Named Expr)) (name : List ℕ) → (all : Arguments Expr) × (c : Input) × AreNamed positional found name all c
+pub some_named : (positional : List Expr) (found : List (Named Expr)) (name : List ℕ) → (all : Arguments Expr) × (c : Input) × AreNamed positional found name all c
 some_named positional found name =
     let (x, c, r) = some_is 0 (omega arith) in
     let (y, d, q) = some_closes m.CloseRound (arguments_of positional (found ++ named_as name x ∷ []) false) in
@@ -225,7 +225,7 @@ module _ (expr : Level → Reader Expr) (bound : ℕ) (inside : Inside expr boun
       ts (λ name. expect m.Assign >>= λ _. p name)
       (λ name left less. exact_expected_then (AreNamed positional found name) Any (some_named positional found name) left (p name) (λ left2 less2. later name left2 (omega arith)) m.Assign)
 
-  named_exact : (n : ℕ) (positional : List Expr) (found : List (Named Expr)) (name : List ℕ) (ts : Input) → length ts ≤ n → length ts < bound
+  pub named_exact : (n : ℕ) (positional : List Expr) (found : List (Named Expr)) (name : List ℕ) (ts : Input) → length ts ≤ n → length ts < bound
       → Exact (AreNamed positional found name) Any ts (named_from expr n positional found name ts)
   unfolding named_from
   named_exact zero positional found name [] few small = exact_refuse (AreNamed positional found name) Any [] (some_named positional found name)

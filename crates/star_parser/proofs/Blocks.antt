@@ -1,41 +1,33 @@
 -- A block is read exactly, where lines and the statements in it are.
-use Rattle.std.proofs.Common.{◌≡◌, ◌≢◌, ◌∙◌, ◌⊎◌, inl, inr, ℕ, zero, suc, ◌+◌, ◌≤◌, ◌<◌, Bool, true, false, List, [], ◌∷◌, ◌++◌, map, Option, Some, None, Result, Ok, Err, refl, sym, ap, subst, arith, rules, append_assoc, length}
+use Rattle.std.proofs.Common.{◌≡◌, ◌≢◌, ◌∙◌, ◌⊎◌, inl, inr, ℕ, zero, suc, ◌≤◌, ◌<◌, List, [], ◌∷◌, ◌++◌, Some, None, refl, sym, ap, subst, arith, append_assoc, length}
 use Rattle.std.proofs.lemmas.List.{append-nil}
 use Rattle.std.specs.Prelude.{if◌then◌else◌}
 use Rattle.std.specs.List.{flat_map, AllByRecursion}
 use Rattle.star_syntax.specs.declared.token.Token.{Token}
 use Rattle.star_syntax.specs.declared.token.Token.TheVariants as t
 use Rattle.star_syntax.specs.declared.token.Keyword.TheVariants as w
-use Rattle.star_syntax.specs.declared.token.Spanned.{Spanned}
 use Rattle.star_syntax.specs.declared.expression.Expr.{Expr}
-use Rattle.star_syntax.specs.declared.statement.SmallKind.TheVariants.{Pass}
-use Rattle.star_syntax.specs.declared.statement.Line.{Line}
 use Rattle.star_syntax.specs.declared.statement.Block.{Block}
 use Rattle.star_syntax.specs.declared.statement.Block.TheVariants.{Inline, Indented}
 use Rattle.star_syntax.specs.declared.statement.Statement.{Statement, roll-Statement}
 use Rattle.star_syntax.specs.declared.statement.Statement.TheOpen.{Statement-F}
-use Rattle.star_syntax.specs.Spelling.{Tokens, small_spelling}
-use Rattle.star_syntax.specs.Levels.{LineFits, BlockFits, IsStatement}
+use Rattle.star_syntax.specs.Levels.{BlockFits, IsStatement}
 use Rattle.star_parser.specs.declared.level.Level.{Level}
-use Rattle.star_parser.specs.Reading.{Input, Outcome, Reader, and_then, ◌>>=◌, ◌>>◌, pure, refuse, next, skip, kinds}
-use Rattle.star_parser.specs.StatementTables.{is_newline, is_indent, is_dedent, eat_newline, expect_indent, eat_dedent}
+use Rattle.star_parser.specs.Reading.{Input, Reader, and_then, ◌>>=◌, pure, next}
+use Rattle.star_parser.specs.StatementTables.{is_newline, is_indent, is_dedent, expect_indent, eat_dedent}
 use Rattle.star_parser.specs.StatementReaders.{line, statements_from, block}
-use Rattle.star_parser.specs.Lines.{Marks, free, plain, line_marks, statement_marks, Matches}
-use Rattle.star_parser.proofs.Exact.{Exact, Then, Just, exact_refuse, exact_then, exact_by, exact_same, exact_pure}
+use Rattle.star_parser.specs.Lines.{Marks, free, plain, statement_marks, Matches}
+use Rattle.star_parser.proofs.Exact.{Exact, Then, Just, exact_refuse, exact_then, exact_by, exact_same}
 use Rattle.star_parser.proofs.Steps.{Tok, some_token, exact_token_then, exact_last, token_next}
-use Rattle.star_parser.proofs.Rules.{length_after, length_less}
+use Rattle.star_parser.proofs.Rules.{length_less}
 use Rattle.star_parser.proofs.First.{last_there, last_back}
-use Rattle.star_parser.proofs.Closing.{Any, Closed, closed_there, closed_back, closed_exact, some_closed}
-use Rattle.star_parser.proofs.LayoutSteps.{newline_is, indent_is, dedent_is, exact_eat_by, exact_expect_by_then}
+use Rattle.star_parser.proofs.Bracketed.{Any}
+use Rattle.star_parser.proofs.LayoutSteps.{Closed, closed_there, closed_back, closed_exact, some_closed, newline_is, indent_is, dedent_is, exact_eat_by, exact_expect_by_then}
 use Rattle.star_parser.proofs.LineMatches.{matches_split, matches_plain, plain_matches}
+use Rattle.star_parser.proofs.LineRules.{IsLine, some_line}
 use Rattle.star_parser.proofs.StatementParts.{EachBlock, statement_made}
 use Rattle.star_parser.proofs.Marks.{body_marks, marks_of, matched_joined, matched_cons}
-use Rattle.star_parser.proofs.Openings.{Opens, OpensLine, line_first, statement_first}
-
--- the tokens are those of the line, on its lines
-pub record IsLine (x : Line) (c : Input) : Type 0 where
-  pub fits : LineFits x
-  pub spelt : Matches c (line_marks x)
+use Rattle.star_parser.proofs.Openings.{Opens, line_first, statement_first}
 
 -- the tokens are those of the statement, on its lines
 pub record IsSpelled (x : Statement) (c : Input) : Type 0 where
@@ -47,21 +39,13 @@ pub record EndsStatement (more : Input) : Type 0 where
   pub no_elif : next more ≢ Some (t.Word w.Elif)
   pub no_else : next more ≢ Some (t.Word w.Else)
 
-abbrev pub some_line : Line
-some_line = record { smalls = record { line = 0; kind = Pass } ∷ []; semicolon = false }
-
--- some line, as it is spelled
-pub some_line_is : (x : Line) × (c : Input) × IsLine x c
-unfolding line_marks small_spelling
-some_line_is =
-    (some_line, some_token (t.Word w.Pass) ∷ some_token t.Newline ∷ [], record { fits = ((λ none. cc), (tt, tt)); spelt = (refl, refl, (refl, tt, tt)) })
-
+-- some statement, as it is spelled
 pub some_spelled : (x : Statement) × (c : Input) × IsSpelled x c
 some_spelled =
-    let (x, c, r) = some_line_is in (
+    let (x, c, r) = some_line in (
       roll-Statement (Statement-F.Line x),
       c,
-      record { levelled = statement_made (Statement-F.Line x) r.fits tt; spelt = subst (Matches c) (sym (marks_of (Statement-F.Line x))) r.spelt },
+      record { levelled = statement_made (Statement-F.Line x) r.0 tt; spelt = subst (Matches c) (sym (marks_of (Statement-F.Line x))) r.1 },
     )
 
 -- ---- the statements of a block
@@ -74,9 +58,11 @@ pub record AreStatements (found all : List Statement) (c : Input) : Type 0 where
   pub levelled : AllByRecursion IsStatement (first ∷ others)
   pub spelt : Matches c (flat_map statement_marks (first ∷ others) ++ plain (t.Dedent ∷ []))
 
+-- Dedent, or more statements and Dedent
 abbrev DedentOr : List Statement → List Statement → Input → Type 0
 DedentOr found all c = Closed t.Dedent found all c ⊎ AreStatements found all c
 
+-- a statement, and what follows it in a block
 abbrev OneAndMore : List Statement → List Statement → Input → Type 0
 OneAndMore found = Then IsSpelled (λ x. DedentOr (found ++ x ∷ []))
 
@@ -119,10 +105,11 @@ statements_by found all c x (y ∷ ys) is levelled spelt =
 statements_back : (found all : List Statement) (c : Input) → AreStatements found all c → OneAndMore found all c
 statements_back found all c h = statements_by found all c h.first h.others h.whole h.levelled h.spelt
 
-spelled_some : (x : Statement) (c : Input) → IsSpelled x c → c ≢ []
+-- a statement has a first token, with which a line may begin
+pub spelled_some : (x : Statement) (c : Input) → IsSpelled x c → c ≢ []
 spelled_some x c h none = let (s, c', split, opens) = statement_first x c h.levelled h.spelt in let a : [] ≡ s ∷ c' = sym none ∙ split in cc
 
-spelled_first : (x : Statement) (c more : Input) → IsSpelled x c → (k : Token) × (next (c ++ more) ≡ Some k) × Opens k
+pub spelled_first : (x : Statement) (c more : Input) → IsSpelled x c → (k : Token) × (next (c ++ more) ≡ Some k) × Opens k
 spelled_first x c more h = let (s, c', split, opens) = statement_first x c h.levelled h.spelt in (s.token, ap (λ v. next (v ++ more)) split, opens)
 
 pub statements_first : (found all : List Statement) (c more : Input) → AreStatements found all c → (k : Token) × (next (c ++ more) ≡ Some k) × Opens k
@@ -192,12 +179,15 @@ pub record IsBlock (body : Block Statement) (c : Input) : Type 0 where
   pub each : EachBlock IsStatement body
   pub spelt : Matches c (body_marks body)
 
+-- Indent, and the statements up to Dedent
 abbrev InnerLines : Block Statement → Input → Type 0
 InnerLines = Then (Tok t.Indent) (λ _. Then (AreStatements []) (λ found. Just (Indented found)))
 
+-- a block on lines of its own
 abbrev IsIndented : Block Statement → Input → Type 0
 IsIndented = Then (Tok t.Newline) (λ _. InnerLines)
 
+-- a block on the line of its header
 abbrev IsInline : Block Statement → Input → Type 0
 IsInline = Then IsLine (λ x. Just (Inline x))
 
@@ -215,7 +205,7 @@ indented_there body c (u, c1, c2, (s, is, one), (u', c3, c4, (s2, is2, one2), la
 inline_there : (body : Block Statement) (c : Input) → IsInline body c → IsBlock body c
 inline_there body c h =
     let (x, r, body_is) = last_there IsLine (λ x. let p : Block Statement = Inline x in p) body c h in
-    let whole : IsBlock (Inline x) c = record { fits = r.fits; each = tt; spelt = r.spelt } in
+    let whole : IsBlock (Inline x) c = record { fits = r.0; each = tt; spelt = r.1 } in
     subst (λ v. IsBlock v c) (sym body_is) whole
 
 indented_back : (body : Block Statement) (c more : Input) → IsBlock body c → next (c ++ more) ≡ Some t.Newline → IsIndented body c
@@ -244,7 +234,7 @@ indented_back (Indented (x ∷ xs)) c more h look =
     )
 
 inline_back : (body : Block Statement) (c more : Input) → IsBlock body c → next (c ++ more) ≢ Some t.Newline → IsInline body c
-inline_back (Inline x) c more h look = last_back IsLine (λ x. let p : Block Statement = Inline x in p) (Inline x) c x (record { fits = h.fits; spelt = h.spelt }) refl
+inline_back (Inline x) c more h look = last_back IsLine (λ x. let p : Block Statement = Inline x in p) (Inline x) c x (h.fits, h.spelt) refl
 inline_back (Indented xs) c more h look =
     let (s, c2, split, is, m1) = matched_cons c t.Newline (free t.Indent ∷ (flat_map statement_marks xs ++ plain (t.Dedent ∷ []))) h.spelt in
     absurd (look (ap (λ v. next (v ++ more)) split ∙ ap Some is))
@@ -256,7 +246,7 @@ some_inner =
     (Indented found, s ∷ c, (tt, s ∷ [], c, (s, refl, refl), last_back (AreStatements []) (λ found. let p : Block Statement = Indented found in p) (Indented found) c found r refl, refl))
 
 pub some_block : (body : Block Statement) × (c : Input) × IsBlock body c
-some_block = let (x, c, r) = some_line_is in (Inline x, c, record { fits = r.fits; each = tt; spelt = r.spelt })
+some_block = let (x, c, r) = some_line in (Inline x, c, record { fits = r.0; each = tt; spelt = r.1 })
 
 module _ (expr : Level → Reader Expr) (statement : Reader Statement) (bound : ℕ)
     (lines : (ts : Input) → length ts < bound → Exact IsLine Any ts (line expr ts))

@@ -1,41 +1,40 @@
 -- The branches of an `if` are read exactly, where conditions and blocks are.
-use Rattle.std.proofs.Common.{◌≡◌, ◌≢◌, ◌∙◌, ◌⊎◌, inl, inr, ℕ, zero, suc, ◌+◌, ◌≤◌, ◌<◌, Bool, true, false, List, [], ◌∷◌, ◌++◌, map, Option, Some, None, Result, Ok, Err, refl, sym, ap, subst, arith, rules, append_assoc, length}
+use Rattle.std.proofs.Common.{◌≡◌, ◌≢◌, ◌∙◌, ℕ, zero, suc, ◌≤◌, ◌<◌, List, [], ◌∷◌, ◌++◌, Option, Some, None, Ok, refl, sym, ap, subst, arith, append_assoc, length}
 use Rattle.std.proofs.lemmas.List.{append-nil}
-use Rattle.std.specs.Prelude.{if◌then◌else◌}
 use Rattle.std.specs.List.{flat_map, AllByRecursion}
 use Rattle.star_syntax.specs.declared.token.Token.{Token}
 use Rattle.star_syntax.specs.declared.token.Token.TheVariants as t
 use Rattle.star_syntax.specs.declared.token.Keyword.TheVariants as w
 use Rattle.star_syntax.specs.declared.token.Mark.TheVariants as m
-use Rattle.star_syntax.specs.declared.token.Spanned.{Spanned}
 use Rattle.star_syntax.specs.declared.expression.Expr.{Expr}
 use Rattle.star_syntax.specs.declared.statement.Block.{Block}
 use Rattle.star_syntax.specs.declared.statement.Branch.{Branch}
 use Rattle.star_syntax.specs.declared.statement.Statement.{Statement, roll-Statement}
 use Rattle.star_syntax.specs.declared.statement.Statement.TheOpen.{Statement-F}
 use Rattle.star_syntax.specs.declared.statement.Statement.TheVariants as tree
-use Rattle.star_syntax.specs.Spelling.{Tokens, expr_spelling}
+use Rattle.star_syntax.specs.Spelling.{expr_spelling}
 use Rattle.star_syntax.specs.Levels.{BranchFits, ElseFits, StatementFits, IsStatement}
 use Rattle.star_parser.specs.declared.level.Level.{Level}
 use Rattle.star_parser.specs.declared.level.Level.TheVariants as level
-use Rattle.star_parser.specs.Reading.{Input, Outcome, Reader, and_then, ◌>>=◌, ◌>>◌, pure, next, rest, skip, kinds}
-use Rattle.star_parser.specs.Tables.{expect, eat_word}
-use Rattle.star_parser.specs.Ends.{reach, Ends}
+use Rattle.star_parser.specs.Reading.{Input, Reader, ◌>>=◌, pure, next, rest}
+use Rattle.star_parser.specs.Tables.{expect}
+use Rattle.star_parser.specs.Ends.{Ends}
 use Rattle.star_parser.specs.StatementTables.{first_line}
 use Rattle.star_parser.specs.StatementReaders.{line, block, branch, branches_from, otherwise, if_after}
 use Rattle.star_parser.specs.Lines.{Marks, free, plain, Matches}
 use Rattle.star_parser.proofs.Exact.{Exact, Then, Just, exact_then, exact_by, exact_same, exact_ends, exact_pure}
-use Rattle.star_parser.proofs.Steps.{Tok, some_token, exact_token_then, exact_last, exact_eat_word, token_next}
+use Rattle.star_parser.proofs.Steps.{Tok, exact_token_then, exact_last, exact_eat_word}
 use Rattle.star_parser.proofs.Rules.{IsExpr, length_after, length_less, some_is}
 use Rattle.star_parser.proofs.First.{last_there, last_back}
-use Rattle.star_parser.proofs.Chains.{Below}
-use Rattle.star_parser.proofs.Closing.{Any, token_ends}
+use Rattle.star_parser.proofs.Bracketed.{Any, Inside}
+use Rattle.star_parser.proofs.Closing.{token_ends}
 use Rattle.star_parser.proofs.LineMatches.{matches_split}
+use Rattle.star_parser.proofs.LineRules.{IsLine}
 use Rattle.star_parser.proofs.StatementParts.{EachBranch, EachElse, EachPart}
 use Rattle.star_parser.proofs.Marks.{body_marks, case_marks, otherwise_marks, parts_marks, matched_joined, matched_cons, matched_line}
 use Rattle.star_parser.proofs.Openings.{line_first}
-use Rattle.star_parser.proofs.Blocks.{IsLine, IsSpelled, EndsStatement, IsBlock}
-use Rattle.star_parser.proofs.Headers.{fronted, front_split, matched_token, TokAt, exact_tok_at, ColonBlock, IsColoned, colon_there, colon_back, some_colon, colon_exact, IsNode, node_of, of_node}
+use Rattle.star_parser.proofs.Blocks.{IsSpelled, EndsStatement, IsBlock}
+use Rattle.star_parser.proofs.Headers.{fronted, front_split, matched_token, TokAt, exact_tok_at, ColonBlock, colon_there, colon_back, some_colon, colon_exact, node_of, of_node}
 
 pub matched_none : (c : Input) → Matches c [] → c ≡ []
 matched_none [] h = refl
@@ -43,6 +42,7 @@ matched_none (s ∷ c) h = absurd h
 
 -- ---- one branch
 
+-- a condition and the block that it guards
 abbrev branch_of : Expr → Block Statement → Branch Statement
 branch_of condition body = record { condition = condition; body = body }
 
@@ -50,11 +50,13 @@ branch_of condition body = record { condition = condition; body = body }
 abbrev pub branch_rest : Branch Statement → Marks
 branch_rest x = plain (expr_spelling x.condition ++ t.Mark m.Colon ∷ []) ++ body_marks x.body
 
+-- the tokens after `if` or `elif` are those of the branch, on its lines
 pub record IsBranch (x : Branch Statement) (c : Input) : Type 0 where
   pub fits : BranchFits x
   pub each : EachBranch IsStatement x
   pub spelt : Matches c (branch_rest x)
 
+-- a condition, a colon and a block
 abbrev BranchWhole : Branch Statement → Input → Type 0
 BranchWhole = Then (IsExpr 0) (λ condition. ColonBlock (branch_of condition))
 
@@ -98,9 +100,11 @@ pub record AreBranches (found all : List (Branch Statement)) (c : Input) : Type 
 abbrev elif_word : Token
 elif_word = t.Word w.Elif
 
+-- no branch goes on
 abbrev pub NoElif : Input → Type 0
 NoElif more = next more ≢ Some (t.Word w.Elif)
 
+-- `elif`, a branch, and more of them
 abbrev Another : List (Branch Statement) → List (Branch Statement) → Input → Type 0
 Another found = Then (Tok elif_word) (λ _. Then IsBranch (λ x. AreBranches (found ++ x ∷ [])))
 
@@ -162,9 +166,11 @@ branches_next P found all c more h at_elif at_end = by_others h.others h.spelt
 abbrev else_word : Token
 else_word = t.Word w.Else
 
+-- no `else` goes on
 abbrev pub NoElse : Input → Type 0
 NoElse more = next more ≢ Some (t.Word w.Else)
 
+-- the tokens are those of `else` and its block, on its lines, or none where there is no `else`
 pub record IsOtherwise (other : Option (Block Statement)) (c : Input) : Type 0 where
   pub fits : ElseFits other
   pub each : EachElse IsStatement other
@@ -173,6 +179,7 @@ pub record IsOtherwise (other : Option (Block Statement)) (c : Input) : Type 0 w
 abbrev made_else : Block Statement → Option (Block Statement)
 made_else body = Some body
 
+-- `else`, a colon and a block
 abbrev IsElse : Option (Block Statement) → Input → Type 0
 IsElse = Then (Tok else_word) (λ _. ColonBlock made_else)
 
@@ -213,15 +220,19 @@ otherwise_next P (Some body) c more h at_else at_end =
 abbrev made_if : ℕ → Branch Statement → List (Branch Statement) → Option (Block Statement) → Statement
 made_if at first more other = tree.If at first more other
 
+-- what stands after the branches of an `if`
 abbrev LastBranch : ℕ → Branch Statement → List (Branch Statement) → Statement → Input → Type 0
 LastBranch at first more = Then IsOtherwise (λ other. Just (made_if at first more other))
 
+-- what stands after the first branch of an `if`
 abbrev MoreBranches : ℕ → Branch Statement → Statement → Input → Type 0
 MoreBranches at first = Then (AreBranches []) (λ more. LastBranch at first more)
 
+-- what stands after `if` on this line
 abbrev IfRest : ℕ → Statement → Input → Type 0
 IfRest at = Then IsBranch (λ first. MoreBranches at first)
 
+-- `if` with its line, and what follows it
 abbrev pub IsIf : Statement → Input → Type 0
 IsIf = Then (TokAt (t.Word w.If)) IfRest
 
@@ -286,7 +297,7 @@ some_more at first = let (more, c, r) = some_branches [] in let (x, d, q) = some
 some_rest : (at : ℕ) → (x : Statement) × (c : Input) × IfRest at x c
 some_rest at = let (first, c, r) = some_branch in let (x, d, q) = some_more at first in (x, c ++ d, (first, c, d, r, q, refl))
 
-module _ (expr : Level → Reader Expr) (statement : Reader Statement) (bound : ℕ) (below : Below expr bound)
+module _ (expr : Level → Reader Expr) (statement : Reader Statement) (bound : ℕ) (inside : Inside expr bound)
     (lines : (ts : Input) → length ts < bound → Exact IsLine Any ts (line expr ts))
     (exact : (ts : Input) → length ts < bound → Exact IsSpelled EndsStatement ts (statement ts)) where
   branch_exact : (ts : Input) → length ts < bound → Exact IsBranch Any ts (branch expr statement ts)
@@ -297,7 +308,7 @@ module _ (expr : Level → Reader Expr) (statement : Reader Statement) (bound : 
       (λ condition x c1 c2 more _ rule _. token_ends (t.Mark m.Colon) refl (Then IsBlock (λ body. Just (branch_of condition body))) x c2 more rule)
       (λ condition c r. some_colon (branch_of condition))
       ts (expr level.Test ts) (λ condition. expect m.Colon >>= λ _. block expr statement >>= λ body. pure (branch_of condition body))
-      (below level.Test ts few)
+      (inside level.Test ts few)
       (λ condition left taken split r. colon_exact expr statement bound lines exact (branch_of condition) left (let a = length_after ts taken left split in omega arith)))
 
   branches_exact : (n : ℕ) (found : List (Branch Statement)) (ts : Input) → length ts ≤ n → length ts < bound → Exact (AreBranches found) NoElif ts (branches_from expr statement n found ts)

@@ -1,33 +1,31 @@
 -- Headers of statements: their first token with its line, and the colon and the block at their end.
-use Rattle.std.proofs.Common.{◌≡◌, ◌≢◌, ◌∙◌, ◌⊎◌, inl, inr, ℕ, zero, suc, ◌+◌, ◌≤◌, ◌<◌, Bool, true, false, List, [], ◌∷◌, ◌++◌, map, Option, Some, None, Result, Ok, Err, refl, sym, ap, subst, arith, rules, append_assoc, length}
-use Rattle.std.proofs.lemmas.List.{append-nil, map-append}
-use Rattle.std.specs.List.{flat_map, AllByRecursion}
+use Rattle.std.proofs.Common.{◌≡◌, ◌∙◌, ℕ, ◌<◌, [], ◌∷◌, ◌++◌, Some, Ok, refl, sym, ap, subst, arith, append_assoc, length}
+use Rattle.std.proofs.lemmas.List.{map-append}
 use Rattle.star_syntax.specs.declared.token.Token.{Token}
 use Rattle.star_syntax.specs.declared.token.Token.TheVariants as t
-use Rattle.star_syntax.specs.declared.token.Keyword.TheVariants as w
 use Rattle.star_syntax.specs.declared.token.Mark.TheVariants as m
 use Rattle.star_syntax.specs.declared.token.Spanned.{Spanned}
 use Rattle.star_syntax.specs.declared.expression.Expr.{Expr}
 use Rattle.star_syntax.specs.declared.statement.Block.{Block}
-use Rattle.star_syntax.specs.declared.statement.Block.TheVariants.{Inline, Indented}
 use Rattle.star_syntax.specs.declared.statement.Statement.{Statement, out-Statement, roll-Statement, roll-out-Statement}
 use Rattle.star_syntax.specs.declared.statement.Statement.TheOpen.{Statement-F}
 use Rattle.star_syntax.specs.Spelling.{Tokens}
 use Rattle.star_syntax.specs.Levels.{BlockFits, StatementFits, IsStatement}
 use Rattle.star_parser.specs.declared.level.Level.{Level}
-use Rattle.star_parser.specs.Reading.{Input, Outcome, Reader, and_then, ◌>>=◌, ◌>>◌, pure, next, rest, skip, kinds}
+use Rattle.star_parser.specs.Reading.{Input, Reader, ◌>>=◌, pure, next, rest, kinds}
 use Rattle.star_parser.specs.Tables.{expect}
 use Rattle.star_parser.specs.StatementTables.{first_line}
 use Rattle.star_parser.specs.StatementReaders.{line, block}
 use Rattle.star_parser.specs.Lines.{Marks, free, plain, statement_marks, Matches}
-use Rattle.star_parser.proofs.Exact.{Exact, Then, Just, exact_then, exact_pure}
+use Rattle.star_parser.proofs.Exact.{Exact, Then, Just}
 use Rattle.star_parser.proofs.Steps.{Tok, some_token, exact_expected_then, exact_last}
 use Rattle.star_parser.proofs.First.{last_there, last_back}
-use Rattle.star_parser.proofs.Closing.{Any}
+use Rattle.star_parser.proofs.Bracketed.{Any}
 use Rattle.star_parser.proofs.LineMatches.{matches_split, matches_plain, plain_matches}
+use Rattle.star_parser.proofs.LineRules.{IsLine}
 use Rattle.star_parser.proofs.StatementParts.{EachBlock, EachPart, statement_parts, statement_made}
 use Rattle.star_parser.proofs.Marks.{body_marks, parts_marks, marks_of, matched_joined, matched_cons}
-use Rattle.star_parser.proofs.Blocks.{IsLine, IsSpelled, EndsStatement, IsBlock, some_block, block_exact}
+use Rattle.star_parser.proofs.Blocks.{IsSpelled, EndsStatement, IsBlock, some_block, block_exact}
 
 -- ---- tokens without lines before others
 
@@ -47,6 +45,7 @@ matched_token c c1 c2 k s x split one is h = subst (λ v. Matches v (free k ∷ 
 
 -- ---- a token and its line
 
+-- one token of this kind, on this line
 abbrev pub TokAt : Token → ℕ → Input → Type 0
 TokAt k at c = (s : Spanned) × (s.token ≡ k) × (at ≡ s.line) × (c ≡ s ∷ [])
 

@@ -32,3 +32,11 @@ pub mod TestLists
 pub mod Smalls
 pub mod LineRules
 pub mod Parameters
+pub mod SliceSteps
+pub mod ArgumentSteps
+pub mod TargetLists
+pub mod Loops
+pub mod StatementsWhole
+pub mod Cells
+pub mod StatementsEnd
+pub mod Texts

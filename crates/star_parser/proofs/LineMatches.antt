@@ -13,6 +13,7 @@ matches_split (s ∷ c) (k ∷ a) b h =
     let (c1, c2, e, is1, is2) = matches_split c a b h.2 in
     (s ∷ c1, c2, ap (λ l. s ∷ l) e, (h.0, h.1, is1), is2)
 
+-- two parts that are claimed are a whole that is claimed
 pub matches_append : (c d : Input) (a b : Marks) → Matches c a → Matches d b → Matches (c ++ d) (a ++ b)
 matches_append [] d [] b h i = i
 matches_append [] d (k ∷ a) b h i = absurd h
@@ -26,6 +27,7 @@ matches_plain [] (k ∷ ks) h = absurd cc
 matches_plain (s ∷ c) [] h = absurd cc
 matches_plain (s ∷ c) (k ∷ ks) h = let h' : s.token ∷ kinds c ≡ k ∷ ks = h in (cc, tt, matches_plain c ks cc)
 
+-- what is claimed without lines are the kinds of the tokens
 pub plain_matches : (c : Input) (ks : Tokens) → Matches c (plain ks) → kinds c ≡ ks
 plain_matches [] [] h = refl
 plain_matches [] (k ∷ ks) h = absurd h
@@ -38,6 +40,7 @@ matches_first line c [] some h at = absurd (some refl)
 matches_first line [] (k ∷ ks) some h at = absurd cc
 matches_first line (s ∷ c) (k ∷ ks) some h at = let h' : s.token ∷ kinds c ≡ k ∷ ks = h in (cc, at, matches_plain c ks cc)
 
+-- what is claimed with the line of the first token: the kinds of the tokens and that line
 pub first_matches : (line : ℕ) (c : Input) (ks : Tokens) → ks ≢ [] → Matches c (first_marked line (plain ks)) → (kinds c ≡ ks) × (line ≡ first_line c)
 first_matches line c [] some h = absurd (some refl)
 first_matches line [] (k ∷ ks) some h = absurd h

@@ -21,9 +21,8 @@ use Rattle.star_parser.specs.Lines.{Marks, free, plain, small_marks, smalls_mark
 use Rattle.star_parser.proofs.Exact.{Exact, Then, Just, exact_refuse, exact_then, exact_by, exact_same, exact_pure}
 use Rattle.star_parser.proofs.Steps.{Tok, exact_token_then, exact_eat, token_next}
 use Rattle.star_parser.proofs.Rules.{length_after}
-use Rattle.star_parser.proofs.Closing.{Any, Closed, closed_there, closed_back, some_closed, closed_exact}
-use Rattle.star_parser.proofs.Chains.{Below}
-use Rattle.star_parser.proofs.LayoutSteps.{newline_is, exact_eat_by, exact_expect_by_then}
+use Rattle.star_parser.proofs.Bracketed.{Inside, Any}
+use Rattle.star_parser.proofs.LayoutSteps.{Closed, closed_there, closed_back, some_closed, closed_exact, newline_is, exact_eat_by, exact_expect_by_then}
 use Rattle.star_parser.proofs.LineMatches.{matches_split, matches_append, matches_plain, plain_matches}
 use Rattle.star_parser.proofs.Smalls.{semicolon, EndsSmall, IsSmall, small_there, small_back, some_small, small_starts, small_first, small_exact}
 
@@ -31,6 +30,7 @@ use Rattle.star_parser.proofs.Smalls.{semicolon, EndsSmall, IsSmall, small_there
 abbrev pub IsLine : Line → Input → Type 0
 IsLine x c = LineFits x × Matches c (line_marks x)
 
+-- each small statement is well-levelled
 abbrev pub SmallsFit : List Small → Type 0
 SmallsFit = AllByRecursion (λ small. KindFits small.kind)
 
@@ -47,12 +47,15 @@ pub record AreSmalls (found : List Small) (all : Line) (c : Input) : Type 0 wher
   pub fits : SmallsFit (first ∷ others)
   pub spelt : Matches c (smalls_marks (first ∷ others) ++ plain (ending written))
 
+-- after a semicolon: the end of the line, or further small statements
 abbrev AfterSemicolon : List Small → Line → Input → Type 0
 AfterSemicolon found all c = Closed t.Newline (line_of found true) all c ⊎ AreSmalls found all c
 
+-- after a small statement
 abbrev SmallsTail : List Small → Line → Input → Type 0
 SmallsTail found all c = Closed t.Newline (line_of found false) all c ⊎ Then (Tok semicolon) (λ _. AfterSemicolon found) all c
 
+-- a small statement, and what follows it
 abbrev SmallsWhole : List Small → Line → Input → Type 0
 SmallsWhole found = Then IsSmall (λ x. SmallsTail (found ++ x ∷ []))
 
@@ -190,7 +193,8 @@ tail_exact found p ts later =
     _ (exact_expect_by_then (Just (line_of found false)) Any (line_of found false, [], (refl, refl)) ts (pure (line_of found false))
     (λ left _. exact_pure (line_of found false) Any left) is_newline t.Newline newline_is refl))
 
-module _ (expr : Level → Reader Expr) (bound : ℕ) (below : Below expr bound) where
+module _ (expr : Level → Reader Expr) (bound : ℕ) (below : Inside expr bound) where
+  -- small statements up to the end of the line are read exactly
   smalls_exact : (n : ℕ) (found : List Small) (ts : Input) → length ts ≤ n → length ts < bound → Exact (AreSmalls found) Any ts (smalls_from expr n found ts)
   unfolding smalls_from
   smalls_exact zero found [] few within = exact_refuse (AreSmalls found) Any [] (some_smalls found)
@@ -224,6 +228,7 @@ line_by (x ∷ xs) written c h = record { first = x; others = xs; written = writ
 line_back : (x : Line) (c : Input) → IsLine x c → AreSmalls [] x c
 line_back x c h = line_by x.smalls x.semicolon c h
 
+-- some line
 pub some_line : (x : Line) × (c : Input) × IsLine x c
 some_line = let (x, c, h) = some_smalls [] in (x, c, line_there x c h)
 
@@ -236,7 +241,7 @@ pub line_not_first : (k : Token) → small_starts k ≡ 0 → (x : Line) (c more
 line_not_first k none x c more h = not_first [] x c more k none (line_back x c h)
 
 -- a line is read exactly, and anything may follow it
-pub line_exact : (expr : Level → Reader Expr) (bound : ℕ) (below : Below expr bound) (ts : Input) → length ts < bound → Exact IsLine Any ts (line expr ts)
+pub line_exact : (expr : Level → Reader Expr) (bound : ℕ) (below : Inside expr bound) (ts : Input) → length ts < bound → Exact IsLine Any ts (line expr ts)
 unfolding line
 line_exact expr bound below ts few =
     exact_same (AreSmalls []) IsLine Any line_there line_back ts _ (smalls_exact expr bound below (length ts) [] ts (omega arith) few)

@@ -1,7 +1,7 @@
 -- Tokens with the lines that are claimed for them.
-use Rattle.std.proofs.Common.{◌≡◌, ◌≢◌, ◌∙◌, ℕ, Bool, List, [], ◌∷◌, ◌++◌, map, Option, Some, None, refl, sym, ap, subst, append_assoc}
+use Rattle.std.proofs.Common.{◌≡◌, ◌∙◌, ℕ, List, [], ◌∷◌, ◌++◌, map, Option, Some, None, refl, sym, ap, subst, append_assoc}
 use Rattle.std.specs.List.{flat_map, AllByRecursion}
-use Rattle.std.proofs.lemmas.List.{append-nil, map-append}
+use Rattle.std.proofs.lemmas.List.{map-append}
 use Rattle.std.proofs.lemmas.List.Folds.{flat_map-map}
 use Rattle.star_syntax.specs.declared.token.Token.{Token}
 use Rattle.star_syntax.specs.declared.token.Token.TheVariants as t
@@ -9,21 +9,19 @@ use Rattle.star_syntax.specs.declared.token.Keyword.{Keyword}
 use Rattle.star_syntax.specs.declared.token.Keyword.TheVariants as w
 use Rattle.star_syntax.specs.declared.token.Mark.TheVariants as m
 use Rattle.star_syntax.specs.declared.token.Spanned.{Spanned}
-use Rattle.star_syntax.specs.declared.expression.Expr.{Expr}
 use Rattle.star_syntax.specs.declared.statement.Small.{Small}
 use Rattle.star_syntax.specs.declared.statement.Line.{Line}
 use Rattle.star_syntax.specs.declared.statement.Block.{Block}
 use Rattle.star_syntax.specs.declared.statement.Block.TheVariants.{Inline, Indented}
 use Rattle.star_syntax.specs.declared.statement.Branch.{Branch}
-use Rattle.star_syntax.specs.declared.statement.Definition.{Definition}
 use Rattle.star_syntax.specs.declared.statement.Statement.{Statement, roll-Statement, map-Statement, fold-roll-Statement}
 use Rattle.star_syntax.specs.declared.statement.Statement.TheOpen.{Statement-F}
 use Rattle.star_syntax.specs.declared.statement.Module.{Module}
 use Rattle.star_syntax.specs.Spelling.{Tokens, expr_spelling, tests_spelling, small_spelling, line_spelling, statement_spelling, spelling, separated, if_written, parameters_spelling}
-use Rattle.star_syntax.specs.SpellingOfParts.{body_spelling, case_spelling, otherwise_spelling, def_spelling, statement_parts_spelling}
+use Rattle.star_syntax.specs.SpellingOfParts.{body_spelling, case_spelling, otherwise_spelling, statement_parts_spelling}
 use Rattle.star_syntax.proofs.StatementLemmas.{statement_spells}
-use Rattle.star_parser.specs.Reading.{Input, kinds, next}
-use Rattle.star_parser.specs.Lines.{Claim, Marks, free, plain, first_marked, small_marks, smalls_marks, line_marks, block_marks, branch_header, branch_marks, else_header, else_marks, for_header, def_header, statement_layer_marks, statement_marks, module_marks, OnLine, Matches}
+use Rattle.star_parser.specs.Reading.{Input, kinds}
+use Rattle.star_parser.specs.Lines.{Marks, free, plain, first_marked, small_marks, smalls_marks, line_marks, block_marks, branch_header, branch_marks, else_header, else_marks, for_header, def_header, statement_layer_marks, statement_marks, module_marks, Matches}
 use Rattle.star_parser.specs.StatementTables.{first_line}
 use Rattle.star_parser.proofs.LineMatches.{matches_append}
 use Rattle.star_parser.proofs.StatementParts.{EachBlock, EachBranch, EachElse, EachPart, block_in, branches_in, else_in, induct_statement}

@@ -1,12 +1,11 @@
 -- The first token of a line and of a statement.
-use Rattle.std.proofs.Common.{◌≡◌, ◌≢◌, ◌∙◌, ℕ, ◌<◌, Bool, List, [], ◌∷◌, ◌++◌, map, Option, Some, None, refl, sym, ap, subst, arith, append_assoc}
-use Rattle.std.specs.List.{flat_map, AllByRecursion}
+use Rattle.std.proofs.Common.{◌≡◌, ◌≢◌, ◌∙◌, ℕ, ◌<◌, List, [], ◌∷◌, ◌++◌, map, Some, refl, sym, ap, subst, arith}
+use Rattle.std.specs.List.{AllByRecursion}
 use Rattle.star_syntax.specs.declared.token.Token.{Token}
 use Rattle.star_syntax.specs.declared.token.Token.TheVariants as t
 use Rattle.star_syntax.specs.declared.token.Keyword.TheVariants as w
 use Rattle.star_syntax.specs.declared.token.Mark.TheVariants as m
 use Rattle.star_syntax.specs.declared.token.Spanned.{Spanned}
-use Rattle.star_syntax.specs.declared.operator.BinaryOp.{BinaryOp}
 use Rattle.star_syntax.specs.declared.expression.Expr.{Expr}
 use Rattle.star_syntax.specs.declared.statement.Small.{Small}
 use Rattle.star_syntax.specs.declared.statement.SmallKind.{SmallKind}
@@ -14,15 +13,15 @@ use Rattle.star_syntax.specs.declared.statement.SmallKind.TheVariants.{Return, B
 use Rattle.star_syntax.specs.declared.statement.Line.{Line}
 use Rattle.star_syntax.specs.declared.statement.Statement.{Statement, out-Statement, roll-Statement, roll-out-Statement}
 use Rattle.star_syntax.specs.declared.statement.Statement.TheOpen.{Statement-F}
-use Rattle.star_syntax.specs.Spelling.{Tokens, expr_spelling, tests_spelling, kind_spelling, small_spelling, line_spelling, separated, if_written, augmented_mark}
-use Rattle.star_syntax.specs.Levels.{IsLevelled, KindFits, LineFits, IsStatement, StatementFits}
-use Rattle.star_parser.specs.Reading.{Input, kinds, next}
+use Rattle.star_syntax.specs.Spelling.{Tokens, expr_spelling, tests_spelling, kind_spelling, small_spelling, line_spelling, separated, if_written}
+use Rattle.star_syntax.specs.Levels.{IsLevelled, KindFits, LineFits, IsStatement}
+use Rattle.star_parser.specs.Reading.{Input}
 use Rattle.star_parser.specs.Starts.{starts}
-use Rattle.star_parser.specs.Lines.{Marks, plain, first_marked, line_marks, statement_marks, Matches}
+use Rattle.star_parser.specs.Lines.{Marks, line_marks, statement_marks, Matches}
 use Rattle.star_parser.proofs.Rules.{kinds_cons}
-use Rattle.star_parser.proofs.First.{StartsAt, expr_starts}
+use Rattle.star_parser.proofs.First.{expr_starts}
 use Rattle.star_parser.proofs.StatementParts.{statement_parts}
-use Rattle.star_parser.proofs.Marks.{marks_of, tokens_of, tokens_line, matched_kinds, matched_line}
+use Rattle.star_parser.proofs.Marks.{marks_of, tokens_line, matched_kinds, matched_line}
 
 -- a line may begin with this token, so it is none of those that stand between statements
 pub record Opens (k : Token) : Type 0 where

@@ -20,14 +20,16 @@ use Rattle.star_parser.proofs.Steps.{Tok, exact_token_then, exact_eat, exact_las
 use Rattle.star_parser.proofs.Words.{NameToken, some_name, exact_name_then}
 use Rattle.star_parser.proofs.Rules.{kinds_cons}
 use Rattle.star_parser.proofs.First.{last_there, last_back}
-use Rattle.star_parser.proofs.Closing.{Any, Closed, closed_there, closed_back, some_closed, closed_exact, comma, Tail, some_tail, tail_next, tail_exact, token_spelt}
-use Rattle.star_parser.proofs.Chains.{Below}
+use Rattle.star_parser.proofs.LayoutSteps.{Closed, closed_there, closed_back, some_closed, closed_exact}
+use Rattle.star_parser.proofs.Closing.{Tail, some_tail, tail_next, tail_exact, token_spelt}
+use Rattle.star_parser.proofs.Bracketed.{Inside, Any, comma}
 use Rattle.star_parser.proofs.Arguments.{close, assign, named_as, ending, commas, commas_of, NamedLevelled, phrases, AreNamed, some_named, named_exact}
 
 -- those without a default, those with one, and whether a comma stands at the end
 abbrev pub Parameters : Type 0
 Parameters = List (List ℕ) × List (Named Expr) × Bool
 
+-- the parts of parameters, together
 abbrev parameters_of : List (List ℕ) → List (Named Expr) → Bool → Parameters
 parameters_of required defaults written = (required, defaults, written)
 
@@ -41,6 +43,7 @@ pub record AreParameters (found : List (List ℕ)) (all : Parameters) (c : Input
   pub levelled : NamedLevelled defaults
   pub spelt : kinds c ≡ parameters_spelling required defaults ++ ending written
 
+-- parameters without defaults, and then those with one
 abbrev with_defaults : List (List ℕ) → Arguments Expr → Parameters
 with_defaults found given = parameters_of found given.named given.comma
 
@@ -56,6 +59,7 @@ RequiredTail found = Tail m.CloseRound (parameters_of found [] false) (parameter
 abbrev ParameterTail : List (List ℕ) → List ℕ → Parameters → Input → Type 0
 ParameterTail found name all c = RequiredTail (found ++ name ∷ []) all c ⊎ Then (Tok assign) (λ _. Valued found name) all c
 
+-- a name, and what follows it
 abbrev ParametersWhole : List (List ℕ) → Parameters → Input → Type 0
 ParametersWhole found = Then NameToken (ParameterTail found)
 
@@ -197,6 +201,7 @@ pub record IsParameters (given : Parameters) (c : Input) : Type 0 where
   pub levelled : NamedLevelled given.1
   pub spelt : kinds c ≡ parameters_spelling given.0 given.1 ++ ending given.2
 
+-- what stands between the brackets
 abbrev Given : Parameters → Input → Type 0
 Given given c = Closed close (parameters_of [] [] false) given c ⊎ AreParameters [] given c
 
@@ -228,12 +233,13 @@ given_of (x ∷ xs) defaults written c h =
 given_back : (given : Parameters) (c : Input) → IsParameters given c → Given given c
 given_back given c h = given_of given.0 given.1 given.2 c h
 
+-- some parameters: none
 pub some_given : (given : Parameters) × (c : Input) × IsParameters given c
 some_given = let (y, c, q) = some_closed close (parameters_of [] [] false) in (y, c, given_there y c (inl q))
 
 -- ---- the readers
 
-module _ (expr : Level → Reader Expr) (bound : ℕ) (below : Below expr bound) where
+module _ (expr : Level → Reader Expr) (bound : ℕ) (below : Inside expr bound) where
   -- after a name
   parameter_exact : (found : List (List ℕ)) (name : List ℕ) (p : Reader Parameters) (ts : Input) → length ts < bound
       → ((left : Input) → length left < length ts → Exact (AreParameters (found ++ name ∷ [])) Any left (p left))
@@ -256,6 +262,7 @@ module _ (expr : Level → Reader Expr) (bound : ℕ) (below : Below expr bound)
       _ (tail_exact m.CloseRound (λ same. cc) (parameters_of (found ++ name ∷ []) [] false) (parameters_of (found ++ name ∷ []) [] true)
       (AreParameters (found ++ name ∷ [])) (not_closed (found ++ name ∷ [])) p ts later))
 
+  -- parameters after those found are read exactly
   parameters_from_exact : (n : ℕ) (found : List (List ℕ)) (ts : Input) → length ts ≤ n → length ts < bound → Exact (AreParameters found) Any ts (parameters_from expr n found ts)
   unfolding parameters_from
   parameters_from_exact zero found [] few within = exact_refuse (AreParameters found) Any [] (some_parameters found)
@@ -271,6 +278,7 @@ module _ (expr : Level → Reader Expr) (bound : ℕ) (below : Below expr bound)
       (λ name left less. parameter_exact found name (parameters_from expr n (found ++ name ∷ [])) left (omega arith)
       (λ left2 less2. parameters_from_exact n (found ++ name ∷ []) left2 (omega arith) (omega arith))))
 
+  -- parameters are read exactly
   pub parameters_exact : (ts : Input) → length ts < bound → Exact IsParameters Any ts (parameters expr ts)
   unfolding parameters
   parameters_exact ts few =

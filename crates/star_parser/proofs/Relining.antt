@@ -1,15 +1,11 @@
 -- Every spelling, on whatever lines, is that of a tree with these lines, which differs in lines alone.
-use Rattle.std.proofs.Common.{◌≡◌, ◌≢◌, ◌∙◌, ℕ, Bool, List, [], ◌∷◌, ◌++◌, map, Option, Some, None, refl, sym, ap, subst, append_assoc}
+use Rattle.std.proofs.Common.{◌≡◌, ◌∙◌, ℕ, List, [], ◌∷◌, ◌++◌, map, Option, Some, None, refl, sym, ap, subst, append_assoc}
 use Rattle.std.specs.List.{flat_map, AllByRecursion}
-use Rattle.star_syntax.specs.declared.token.Token.{Token}
 use Rattle.star_syntax.specs.declared.token.Token.TheVariants as t
 use Rattle.star_syntax.specs.declared.token.Keyword.{Keyword}
 use Rattle.star_syntax.specs.declared.token.Keyword.TheVariants as w
 use Rattle.star_syntax.specs.declared.token.Mark.TheVariants as m
-use Rattle.star_syntax.specs.declared.token.Spanned.{Spanned}
-use Rattle.star_syntax.specs.declared.expression.Expr.{Expr}
 use Rattle.star_syntax.specs.declared.statement.Small.{Small}
-use Rattle.star_syntax.specs.declared.statement.SmallKind.{SmallKind}
 use Rattle.star_syntax.specs.declared.statement.Line.{Line}
 use Rattle.star_syntax.specs.declared.statement.Block.{Block}
 use Rattle.star_syntax.specs.declared.statement.Block.TheVariants.{Inline, Indented}
@@ -19,14 +15,14 @@ use Rattle.star_syntax.specs.declared.statement.Statement.{Statement, roll-State
 use Rattle.star_syntax.specs.declared.statement.Statement.TheOpen.{Statement-F}
 use Rattle.star_syntax.specs.declared.statement.Module.{Module}
 use Rattle.star_syntax.specs.Spelling.{Tokens, expr_spelling, tests_spelling, small_spelling, line_spelling, statement_spelling, spelling, separated, if_written, parameters_spelling}
-use Rattle.star_syntax.specs.SpellingOfParts.{body_spelling, case_spelling, otherwise_spelling, def_spelling, statement_parts_spelling}
-use Rattle.star_syntax.specs.Levels.{KindFits, LineFits, BlockFits, BranchFits, ElseFits, DefinitionFits, StatementFits, IsStatement, WellLevelled}
+use Rattle.star_syntax.specs.SpellingOfParts.{body_spelling, case_spelling, otherwise_spelling, statement_parts_spelling}
+use Rattle.star_syntax.specs.Levels.{KindFits, LineFits, BlockFits, BranchFits, ElseFits, StatementFits, IsStatement, WellLevelled}
 use Rattle.star_syntax.proofs.StatementLemmas.{statement_spells}
 use Rattle.star_parser.specs.Reading.{Input, kinds}
 use Rattle.star_parser.specs.StatementTables.{first_line}
-use Rattle.star_parser.specs.Lines.{Marks, free, plain, first_marked, small_marks, smalls_marks, line_marks, branch_header, else_header, for_header, def_header, statement_marks, module_marks, Matches, unlined_small, unlined_line, unlined_block, unlined_branch, unlined_else, unlined_definition, unlined_layer, unlined_statement, unlined}
+use Rattle.star_parser.specs.Lines.{free, plain, small_marks, smalls_marks, line_marks, branch_header, else_header, for_header, def_header, statement_marks, module_marks, Matches, unlined_small, unlined_line, unlined_block, unlined_branch, unlined_else, unlined_layer, unlined_statement, unlined}
 use Rattle.star_parser.proofs.Rules.{kinds_split, kinds_cons}
-use Rattle.star_parser.proofs.LineMatches.{matches_append, matches_plain}
+use Rattle.star_parser.proofs.LineMatches.{matches_plain}
 use Rattle.star_parser.proofs.StatementParts.{EachBlock, EachBranch, EachElse, EachPart, block_in, branches_in, else_in, induct_statement, statement_parts, statement_made}
 use Rattle.star_parser.proofs.Marks.{body_marks, case_marks, otherwise_marks, if_marks, parts_marks, marks_of, for_joined, def_joined, matched_joined, first_matched}
 
@@ -166,12 +162,14 @@ pub record Relined (x : Statement) (c : Input) : Type 0 where
   pub spelt : Matches c (statement_marks tree)
   pub same : unlined_statement tree ≡ unlined_statement x
 
+-- the same of the statements of a block
 record RelinedList (xs : List Statement) (c : Input) : Type 0 where
   pub trees : List Statement
   pub levelled : AllByRecursion IsStatement trees
   pub spelt : Matches c (flat_map statement_marks trees)
   pub same : map unlined_statement trees ≡ map unlined_statement xs
 
+-- the same of a block
 record RelinedBody (body : Block Statement) (c : Input) : Type 0 where
   pub tree : Block Statement
   pub fits : BlockFits tree
@@ -179,6 +177,7 @@ record RelinedBody (body : Block Statement) (c : Input) : Type 0 where
   pub spelt : Matches c (body_marks tree)
   pub same : body_unlined tree ≡ body_unlined body
 
+-- the same of a branch
 record RelinedCase (word : Keyword) (branch : Branch Statement) (c : Input) : Type 0 where
   pub tree : Branch Statement
   pub fits : BranchFits tree
@@ -186,6 +185,7 @@ record RelinedCase (word : Keyword) (branch : Branch Statement) (c : Input) : Ty
   pub spelt : Matches c (case_marks word tree)
   pub same : case_unlined tree ≡ case_unlined branch
 
+-- the same of branches after `elif`
 record RelinedCases (xs : List (Branch Statement)) (c : Input) : Type 0 where
   pub trees : List (Branch Statement)
   pub fits : AllByRecursion BranchFits trees
@@ -193,6 +193,7 @@ record RelinedCases (xs : List (Branch Statement)) (c : Input) : Type 0 where
   pub spelt : Matches c (flat_map (case_marks w.Elif) trees)
   pub same : map case_unlined trees ≡ map case_unlined xs
 
+-- the same of `else` and its block
 record RelinedElse (other : Option (Block Statement)) (c : Input) : Type 0 where
   pub tree : Option (Block Statement)
   pub fits : ElseFits tree
@@ -324,6 +325,7 @@ relined = induct_statement Relines (λ d relines c levelled h. let (fits, each) 
 
 -- ---- cells
 
+-- a tree of a cell on these lines, which differs in lines alone
 pub record RelinedModule (cell : Module) (c : Input) : Type 0 where
   pub tree : Module
   pub levelled : WellLevelled tree

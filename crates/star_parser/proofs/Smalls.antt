@@ -30,10 +30,10 @@ use Rattle.star_parser.proofs.Exact.{Exact, Then, Just, exact_then, exact_by, ex
 use Rattle.star_parser.proofs.Steps.{Tok, some_token, exact_token_then, exact_eat_word, exact_last, token_next, mark_is, is_mark_itself}
 use Rattle.star_parser.proofs.Rules.{IsExpr, kinds_split, kinds_cons, kinds_none, kinds_append, next_kind, length_after}
 use Rattle.star_parser.proofs.First.{first_of, last_there, last_back}
-use Rattle.star_parser.proofs.Closing.{comma, closed_there, closed_back, token_spelt, not_first}
-use Rattle.star_parser.proofs.Chains.{Below}
+use Rattle.star_parser.proofs.Closing.{token_spelt}
+use Rattle.star_parser.proofs.Bracketed.{Inside, comma, not_first}
 use Rattle.star_parser.proofs.Arguments.{assign}
-use Rattle.star_parser.proofs.LayoutSteps.{newline_is, exact_here}
+use Rattle.star_parser.proofs.LayoutSteps.{closed_there, closed_back, newline_is, exact_here}
 use Rattle.star_parser.proofs.LineMatches.{matches_first, first_matches}
 use Rattle.star_parser.proofs.TestLists.{IsTests, EndsTests, AreMore, some_more, more_next, tests_from_more, more_from_tests, some_tests, tests_first, tests_after_exact, tests_exact}
 
@@ -44,16 +44,20 @@ pub record IsKind (kind : SmallKind) (c : Input) : Type 0 where
 
 -- ---- what follows a small statement
 
+-- the mark between small statements
 abbrev pub semicolon : Token
 semicolon = t.Mark m.Semicolon
 
+-- a semicolon or the end of the line comes next
 abbrev pub EndsSmall : Input → Type 0
 EndsSmall more = (next more ≡ Some semicolon) ⊎ (next more ≡ Some t.Newline)
 
+-- what holds of both holds of the token that comes next
 ends_next : (more : Input) → EndsSmall more → (P : Option Token → Type 0) → P (Some semicolon) → P (Some t.Newline) → P (next more)
 ends_next more (inl e) P at_semicolon at_newline = subst P (sym e) at_semicolon
 ends_next more (inr e) P at_semicolon at_newline = subst P (sym e) at_newline
 
+-- tests end there
 ends_tests : (more : Input) → EndsSmall more → EndsTests more
 unfolding Ends
 ends_tests more ends = record {
@@ -136,9 +140,11 @@ all_targets (x ∷ xs) h = rw (h.0, all_targets xs h.1) refl
 abbrev Values : (List Expr → SmallKind) → SmallKind → Input → Type 0
 Values make = Then IsTests (λ values. Just (make values))
 
+-- after targets: `=` and what is assigned
 abbrev Assigns : List Expr → SmallKind → Input → Type 0
 Assigns found = Then (Tok assign) (λ _. Values (Assign found))
 
+-- after a place: a mark such as `+=`, and tests
 abbrev Stores : Expr → BinaryOp → SmallKind → Input → Type 0
 Stores x o = Then (Tok (t.Mark (augmented_mark o))) (λ _. Values (Augmented x o))
 
@@ -146,6 +152,7 @@ Stores x o = Then (Tok (t.Mark (augmented_mark o))) (λ _. Values (Augmented x o
 abbrev ListTail : List Expr → SmallKind → Input → Type 0
 ListTail found kind c = Just (Tests found) kind c ⊎ ((are_targets found ≡ true) × Assigns found kind c)
 
+-- after a test: further ones, and what follows them
 abbrev Listed : Expr → SmallKind → Input → Type 0
 Listed x = Then (AreMore (x ∷ [])) ListTail
 
@@ -153,6 +160,7 @@ Listed x = Then (AreMore (x ∷ [])) ListTail
 abbrev PhraseTail : Expr → SmallKind → Input → Type 0
 PhraseTail x kind c = ((o : BinaryOp) × (is_place x ≡ true) × Stores x o kind c) ⊎ Listed x kind c
 
+-- a small statement that begins with a test
 abbrev Phrase : SmallKind → Input → Type 0
 Phrase = Then (IsExpr 0) PhraseTail
 
@@ -244,10 +252,11 @@ augmented_back x o values c h =
 -- no phrase begins with this token
 phrase_not_first : (k : Token) → starts k ≡ 0 → (kind : SmallKind) (c more : Input) → Phrase kind c → next (c ++ more) ≢ Some k
 phrase_not_first k none kind c more (x, c1, c2, r, later, split) e =
-    not_first k none 0 x c1 (c2 ++ more) r (ap next (sym (append_assoc c1 c2 more) ∙ ap (λ v. v ++ more) (sym split)) ∙ e)
+    not_first k none c1 (c2 ++ more) (first_of 0 x c1 r) (ap next (sym (append_assoc c1 c2 more) ∙ ap (λ v. v ++ more) (sym split)) ∙ e)
 
 -- ---- what begins with a word
 
+-- the word that a small statement begins with, if it does
 first_word : SmallKind → Option Keyword
 first_word (Return values) = Some w.Return
 first_word Break = Some w.Break
@@ -323,6 +332,7 @@ word_exact word kind fits spells none only ts here =
 abbrev Returned : SmallKind → Input → Type 0
 Returned kind c = (values : List Expr) × AllLevelled values × (kinds c ≡ tests_spelling values) × (kind ≡ Return values)
 
+-- `return`, and what is returned
 abbrev Returns : SmallKind → Input → Type 0
 Returns = Then (Tok (t.Word w.Return)) (λ _. Returned)
 
@@ -356,7 +366,7 @@ some_returned kind c more (x ∷ xs, levelled, spelt, kind_is) ends look =
 
 -- ---- the readers
 
-module _ (expr : Level → Reader Expr) (bound : ℕ) (below : Below expr bound) where
+module _ (expr : Level → Reader Expr) (bound : ℕ) (below : Inside expr bound) where
   values_exact : (make : List Expr → SmallKind) (ts : Input) → length ts < bound → Exact (Values make) EndsSmall ts (and_then (tests expr ts) (λ values. pure (make values)))
   values_exact make ts few = exact_last IsTests EndsTests EndsSmall ends_tests make ts (tests expr ts) (tests_exact expr bound below ts few)
 
@@ -444,6 +454,7 @@ module _ (expr : Level → Reader Expr) (bound : ℕ) (below : Below expr bound)
   unfolding returned
   returned_exact ts few = returned_by ts few (ends_small (next ts)) refl
 
+  -- small statements without their lines are read exactly
   pub kind_exact : (ts : Input) → length ts < bound → Exact IsKind EndsSmall ts (small_kind expr ts)
   unfolding small_kind
   kind_exact ts few =
@@ -463,6 +474,7 @@ module _ (expr : Level → Reader Expr) (bound : ℕ) (below : Below expr bound)
 
 -- ---- with their lines
 
+-- the small statement on a line
 abbrev on : ℕ → SmallKind → Small
 on line kind = record { line = line; kind = kind }
 
@@ -474,11 +486,13 @@ SmallOn line x c = IsKind x.kind c × (x.line ≡ line)
 abbrev pub IsSmall : Small → Input → Type 0
 IsSmall x c = SmallOn (first_line c) x c
 
+-- the tokens of a small statement are those that it claims
 pub small_there : (x : Small) (c : Input) → IsSmall x c → KindFits x.kind × Matches c (small_marks x)
 unfolding small_spelling
 small_there x c (h, at) =
     (h.fits, matches_first x.line c (kind_spelling x.kind) (λ none. kind_some x.kind c h (kinds_none c (h.spelt ∙ none))) h.spelt at)
 
+-- tokens that a small statement claims spell it
 pub small_back : (x : Small) (c : Input) → KindFits x.kind → Matches c (small_marks x) → IsSmall x c
 unfolding small_spelling
 small_back x c fits h = by_spelling (kind_spelling x.kind) refl
@@ -489,9 +503,11 @@ small_back x c fits h = by_spelling (kind_spelling x.kind) refl
         let (spelt, at) = first_matches x.line c (kind_spelling x.kind) (λ none. let a : k ∷ ks ≡ [] = sym is ∙ none in cc) h in
         (record { fits = fits; spelt = spelt }, at)
 
+-- some small statement
 pub some_small : (x : Small) × (c : Input) × IsSmall x c
 some_small = let s = some_token (t.Word w.Pass) in (on 0 Pass, s ∷ [], (record { fits = tt; spelt = refl }, refl))
 
+-- a small statement is spelled with some token
 pub small_some : (x : Small) (c : Input) → IsSmall x c → c ≢ []
 small_some x c h = kind_some x.kind c h.0
 
@@ -534,7 +550,8 @@ kind_first (Tests found) c h = phrase_first (Tests found) c (tests_back found c 
 pub small_first : (x : Small) (c : Input) → IsSmall x c → (s : Spanned) × (d : Input) × (c ≡ s ∷ d) × (0 < small_starts s.token)
 small_first x c h = kind_first x.kind c h.0
 
-module _ (expr : Level → Reader Expr) (bound : ℕ) (below : Below expr bound) where
+module _ (expr : Level → Reader Expr) (bound : ℕ) (below : Inside expr bound) where
+  -- small statements are read exactly
   pub small_exact : (ts : Input) → length ts < bound → Exact IsSmall EndsSmall ts (small expr ts)
   unfolding small
   small_exact ts few =

@@ -21,8 +21,8 @@ use Rattle.star_parser.proofs.Exact.{Exact, Then, Just, exact_then, exact_by, ex
 use Rattle.star_parser.proofs.Steps.{Tok, exact_token_then, exact_eat}
 use Rattle.star_parser.proofs.Rules.{IsExpr, kinds_split, kinds_cons, kinds_none, kinds_append, next_kind, length_after, some_is}
 use Rattle.star_parser.proofs.First.{first_of}
-use Rattle.star_parser.proofs.Closing.{comma, token_spelt}
-use Rattle.star_parser.proofs.Chains.{Below}
+use Rattle.star_parser.proofs.Closing.{token_spelt}
+use Rattle.star_parser.proofs.Bracketed.{Inside, comma}
 use Rattle.star_parser.proofs.Arguments.{commas}
 
 -- the tokens spell tests, at least one
@@ -46,6 +46,7 @@ pub record AreMore (found all : List Expr) (c : Input) : Type 0 where
 abbrev Another : List Expr → List Expr → Input → Type 0
 Another found = Then (Tok comma) (λ _. Then (IsExpr 0) (λ x. AreMore (found ++ x ∷ [])))
 
+-- another test and those after it are tests after those found
 another_there : (found all : List Expr) (c : Input) → Another found all c → AreMore found all c
 another_there found all c (u, c1, c2, (s, is, one), (x, c3, c4, r, more, split2), split) = record {
   others = x ∷ more.others;
@@ -55,6 +56,7 @@ another_there found all c (u, c1, c2, (s, is, one), (x, c3, c4, r, more, split2)
       ∙ ap (λ v. comma ∷ v) (ap kinds split2 ∙ kinds_append c3 c4 ∙ ap (λ v. v ++ kinds c4) r.spelt ∙ ap (λ v. expr_spelling x ++ v) more.spelt);
 }
 
+-- where a comma comes next, tests after those found are another one and those after it
 another_by : (found all : List Expr) (c more : Input) (others : List Expr) → all ≡ found ++ others → AllByRecursion IsLevelled others
     → kinds c ≡ commas (map expr_spelling others) → EndsTests more → next (c ++ more) ≡ Some comma → Another found all c
 another_by found all c more [] whole levelled spelt ends look = absurd (ends.no_comma (ap (λ v. next (v ++ more)) (sym (kinds_none c spelt)) ∙ look))
@@ -76,14 +78,17 @@ another_by found all c more (x ∷ xs) whole levelled spelt ends look =
       split,
     )
 
+-- no further tests
 none_there : (found all : List Expr) (c : Input) → Just found all c → AreMore found all c
 none_there found all c (is, none) = record { others = []; whole = is ∙ sym (append-nil found); levelled = tt; spelt = ap kinds none }
 
+-- where no comma comes next, there are no further tests
 none_by : (found all : List Expr) (c more : Input) (others : List Expr) → all ≡ found ++ others → kinds c ≡ commas (map expr_spelling others)
     → next (c ++ more) ≢ Some comma → Just found all c
 none_by found all c more [] whole spelt look = (whole ∙ append-nil found, kinds_none c spelt)
 none_by found all c more (x ∷ xs) whole spelt look = absurd (look (next_kind c more comma (expr_spelling x ++ commas (map expr_spelling xs)) spelt))
 
+-- some further tests: none
 pub some_more : (found : List Expr) → (all : List Expr) × (c : Input) × AreMore found all c
 some_more found = (found, [], none_there found found [] (refl, refl))
 
@@ -95,6 +100,7 @@ more_next found all c more h P at_comma at_end = by_others h.others h.spelt
     by_others [] spelt = subst (λ v. P (next (v ++ more))) (sym (kinds_none c spelt)) at_end
     by_others (x ∷ xs) spelt = subst P (sym (next_kind c more comma (expr_spelling x ++ commas (map expr_spelling xs)) spelt)) at_comma
 
+-- a test ends before further tests
 pub more_ends : (found all : List Expr) (c more : Input) → AreMore found all c → Ends 0 more → Ends 0 (c ++ more)
 unfolding Ends
 more_ends found all c more h ends = more_next found all c more h (λ k. reach k ≤ 0) (omega arith) ends
@@ -114,6 +120,7 @@ tests_from_more x all c c1 c2 r more split =
     } in
     subst (λ v. IsTests v c) (sym more.whole) held
 
+-- tests are a first one and those after it
 pub more_from_tests : (x : Expr) (xs : List Expr) (c : Input) → IsTests (x ∷ xs) c → (c1 : Input) × (c2 : Input) × IsExpr 0 x c1 × AreMore (x ∷ []) (x ∷ xs) c2 × (c ≡ c1 ++ c2)
 more_from_tests x xs c h =
     let (c1, c2, split, is1, is2) = kinds_split c (expr_spelling x) (commas (map expr_spelling xs)) h.spelt in
@@ -126,6 +133,7 @@ tests_back : (all : List Expr) (c : Input) → IsTests all c → TestsWhole all 
 tests_back [] c h = absurd (h.fits.0 refl)
 tests_back (x ∷ xs) c h = let (c1, c2, r, more, split) = more_from_tests x xs c h in (x, c1, c2, r, more, split)
 
+-- some tests
 pub some_tests : (all : List Expr) × (c : Input) × IsTests all c
 some_tests =
     let (x, c, r) = some_is 0 (omega arith) in
@@ -149,7 +157,8 @@ tests_not_first k none all c more h e =
 
 -- ---- the readers
 
-module _ (expr : Level → Reader Expr) (bound : ℕ) (below : Below expr bound) where
+module _ (expr : Level → Reader Expr) (bound : ℕ) (below : Inside expr bound) where
+  -- one more test, or none, by the token that comes next
   step : (more : List Expr → Reader (List Expr)) (found : List Expr) (ts : Input) → length ts ≤ bound
       → ((found' : List Expr) (left : Input) → length left < length ts → Exact (AreMore found') EndsTests left (more found' left))
       → Exact (AreMore found) EndsTests ts (and_then (eat m.Comma ts) (λ so. if so then (expr level.Test >>= λ x. more (found ++ x ∷ [])) else pure found))
@@ -169,6 +178,7 @@ module _ (expr : Level → Reader Expr) (bound : ℕ) (below : Below expr bound)
       (λ all c w h ends look. none_by found all c w h.others h.whole h.spelt (λ e. other (sym look ∙ e)))
       _ (exact_pure found EndsTests ts))
 
+  -- tests after those found are read exactly
   pub tests_after_exact : (n : ℕ) (found : List Expr) (ts : Input) → length ts ≤ n → length ts ≤ bound → Exact (AreMore found) EndsTests ts (tests_after expr n found ts)
   unfolding tests_after
   tests_after_exact zero found [] few small =
@@ -178,6 +188,7 @@ module _ (expr : Level → Reader Expr) (bound : ℕ) (below : Below expr bound)
   tests_after_exact zero found (s ∷ ts) few small = absurd (omega arith)
   tests_after_exact (suc n) found ts few small = step (tests_after expr n) found ts small (λ found' left less. tests_after_exact n found' left (omega arith) (omega arith))
 
+  -- tests are read exactly
   pub tests_exact : (ts : Input) → length ts < bound → Exact IsTests EndsTests ts (tests expr ts)
   unfolding tests
   tests_exact ts few =

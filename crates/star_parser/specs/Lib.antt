@@ -9,3 +9,7 @@ pub mod StatementTables
 pub mod StatementReaders
 pub mod Lines
 pub mod Trees
+pub mod Parsing
+pub mod Slices
+pub mod ArgumentReaders
+pub mod NestsBlocks

@@ -33,6 +33,7 @@ are_targets (x ∷ xs) = is_target x && are_targets xs
 abbrev pub place_op : Expr → Option Token → Option BinaryOp
 place_op x token = if is_place x then augmented_op token else None
 
+-- a line of small statements, and whether a semicolon stands at its end
 abbrev pub line_of : List Small → Bool → Line
 line_of smalls semicolon = record { smalls = smalls; semicolon = semicolon }
 
@@ -72,6 +73,7 @@ module _ (expr : Level → Reader Expr) where
     values ← tests
     pure (Augmented target o values)
 
+  -- after tests: what is assigned, if they are targets and `=` comes next
   abbrev pub assigned_by : List Expr → Bool → Reader SmallKind
   assigned_by found true = skip >> assigned found
   assigned_by found false = pure (Tests found)
@@ -83,6 +85,7 @@ module _ (expr : Level → Reader Expr) where
     token ← peek
     assigned_by found (is_mark m.Assign token && are_targets found)
 
+  -- after a test: what is stored in it by the operator, or further tests
   abbrev pub phrase_by : Expr → Option BinaryOp → Reader SmallKind
   phrase_by first (Some o) = skip >> augmented first o
   phrase_by first None = listed first
@@ -94,6 +97,7 @@ module _ (expr : Level → Reader Expr) where
     token ← peek
     phrase_by first (place_op first token)
 
+  -- a small statement without its line, by the word that it begins with
   unfoldable pub small_kind : Reader SmallKind
   small_kind = do
     returns ← eat_word w.Return
@@ -126,6 +130,7 @@ module _ (expr : Level → Reader Expr) where
         expect_newline
         pure (line_of (found ++ x ∷ []) false))
 
+  -- small statements and the end of their line
   unfoldable pub line : Reader Line
   line = λ ts. smalls_from (length ts) [] ts
 

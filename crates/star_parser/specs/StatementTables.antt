@@ -10,18 +10,22 @@ use Rattle.star_parser.specs.Tables.{is_mark}
 
 -- ---- tokens of the layout
 
+-- the token ends a logical line
 abbrev pub is_newline : Option Token → Bool
 is_newline (Some t.Newline) = true
 is_newline _ = false
 
+-- the token opens a block
 abbrev pub is_indent : Option Token → Bool
 is_indent (Some t.Indent) = true
 is_indent _ = false
 
+-- the token closes a block
 abbrev pub is_dedent : Option Token → Bool
 is_dedent (Some t.Dedent) = true
 is_dedent _ = false
 
+-- the token is the last of a cell
 abbrev pub is_end : Option Token → Bool
 is_end (Some t.End) = true
 is_end _ = false
@@ -32,23 +36,29 @@ eat_by is_it = do
   token ← peek
   if is_it token then skip >> pure true else pure false
 
+-- takes the token that comes next, if it passes the test, and refuses it otherwise
 abbrev pub expect_by : (Option Token → Bool) → Reader (Unit {0})
 expect_by is_it = do
   token ← peek
   if is_it token then skip else refuse
 
+-- takes Newline, if it comes next
 abbrev pub eat_newline : Reader Bool
 eat_newline = eat_by is_newline
 
+-- takes Newline, or refuses what comes next
 abbrev pub expect_newline : Reader (Unit {0})
 expect_newline = expect_by is_newline
 
+-- takes Indent, or refuses what comes next
 abbrev pub expect_indent : Reader (Unit {0})
 expect_indent = expect_by is_indent
 
+-- takes Dedent, if it comes next
 abbrev pub eat_dedent : Reader Bool
 eat_dedent = eat_by is_dedent
 
+-- takes End, if it comes next
 abbrev pub eat_end : Reader Bool
 eat_end = eat_by is_end
 

@@ -4,10 +4,17 @@
 //! a cursor goes over the tokens once, and a rule that refuses leaves it at the refused token.
 #![tactic(auto)]
 
+pub mod compound;
 pub mod cursor;
 pub mod fault;
 pub mod grammar;
+pub mod layout;
 pub mod level;
+pub mod parser;
+pub mod header;
+pub mod small;
 pub mod target;
+pub mod terms;
 
 pub use fault::ParseFault;
+pub use parser::{one_tree, parse};

@@ -1,9 +1,10 @@
 //! The arguments of a call.
 
-ghost use Rattle.std.specs.Prelude.{◌≡◌, [], length};
+ghost use Rattle.std.specs.Prelude.{◌≡◌, [], length, IfOk};
 ghost use Rattle.star_parser.specs.Readers as spec;
 ghost use Rattle.star_parser.specs.Verdict.{Reads};
 ghost use Rattle.star_parser.specs.Nests.{Nests};
+ghost use Rattle.star_parser.specs.ArgumentReaders as single;
 
 use crate::cursor::Cursor;
 use crate::fault::Fault;
@@ -15,11 +16,19 @@ use sqlite_items::Items;
 use star_syntax::{Arguments, Expr, Mark, Named};
 use std::alloc::Global;
 
+/// One argument of a call.
+#[derive(Drop)]
+pub enum Argument {
+    /// The name of a named argument.
+    Named(Text),
+    Positional(Expr),
+}
+
 impl<F: Fn(Global, &mut Cursor<'_>, usize, Level) -> Result<Expr, Fault>> Grammar<F> {
     /// Named arguments up to `)`, in so many turns at most, after the positional ones; the name of the
     /// first and the `=` after it are read.
     #[tactic(auto, unfolding(crate::specs::Readers::named_from))]
-    fn named_from(
+    pub fn named_from(
         &self,
         tokens: &mut Cursor<'_>,
         turns: usize,
@@ -46,6 +55,23 @@ impl<F: Fn(Global, &mut Cursor<'_>, usize, Level) -> Result<Expr, Fault>> Gramma
         Err(Fault::Unexpected)
     }
 
+    /// A positional argument, or the name of a named one with the `=` after it.
+    #[tactic(auto, using(crate::proofs::Targets::names), unfolding(crate::specs::ArgumentReaders::argument))]
+    fn argument(&self, tokens: &mut Cursor<'_>) -> Result<Argument, Fault>
+        requires { Nests self.now.depth (F.pre self.now.expr) (F.post self.now.expr) }
+        ensures { Reads (single.argument (spec.expr self.now.depth) tokens.old.rest.now) result tokens.new.rest.now }
+    {
+        match name_or_self(self.expr(tokens, Level::Test)?) {
+            Ok(name) => {
+                if tokens.eat(Mark::Assign) {
+                    return Ok(Argument::Named(name));
+                }
+                Ok(Argument::Positional(Expr::Name(name)))
+            }
+            Err(item) => Ok(Argument::Positional(item)),
+        }
+    }
+
     /// The arguments up to `)`, of which there is at least one.
     #[tactic(auto, unfolding(crate::specs::Readers::arguments_from))]
     fn arguments_from(&self, tokens: &mut Cursor<'_>) -> Result<Arguments<Expr>, Fault>
@@ -55,16 +81,12 @@ impl<F: Fn(Global, &mut Cursor<'_>, usize, Level) -> Result<Expr, Fault>> Gramma
         let turns = tokens.left();
         let mut found = Items::new(self.alloc);
         for turn in 0..turns {
-            let item = match name_or_self(self.expr(tokens, Level::Test)?) {
-                Ok(name) => {
-                    if tokens.eat(Mark::Assign) {
-                        return self.named_from(tokens, turns - turn - 1, found, name);
-                    }
-                    Expr::Name(name)
+            match self.argument(tokens)? {
+                Argument::Named(name) => {
+                    return self.named_from(tokens, turns - turn - 1, found, name);
                 }
-                Err(item) => item,
-            };
-            found.push(item)?;
+                Argument::Positional(item) => found.push(item)?,
+            }
             if tokens.eat(Mark::CloseRound) {
                 return Ok(arguments(found, Items::new(self.alloc), false));
             }

@@ -111,20 +111,25 @@ impl<F: Fn(Global, &mut Cursor<'_>, usize, Level) -> Result<Expr, Fault>> Gramma
         Ok(with_nots(self.alloc, count, operand)?)
     }
 
+    /// A nested expression of the level, in a box.
+    fn boxed(&self, tokens: &mut Cursor<'_>, level: Level) -> Result<Boxed<Expr>, Fault>
+        requires { Nests self.now.depth (F.pre self.now.expr) (F.post self.now.expr) }
+        ensures { Reads (spec.expr self.now.depth level tokens.old.rest.now) result tokens.new.rest.now }
+    {
+        let inner = self.expr(tokens, level)?;
+        Ok(Boxed::new(self.alloc, inner)?)
+    }
+
     /// After the value and `if`.
     #[tactic(auto, unfolding(crate::specs::Readers::conditional))]
-    fn conditional(&self, tokens: &mut Cursor<'_>, value: Expr) -> Result<Expr, Fault>
+    fn conditional(&self, tokens: &mut Cursor<'_>, value: Boxed<Expr>) -> Result<Expr, Fault>
         requires { Nests self.now.depth (F.pre self.now.expr) (F.post self.now.expr) }
         ensures { Reads (spec.conditional (spec.expr self.now.depth) value tokens.old.rest.now) result tokens.new.rest.now }
     {
-        let condition = self.expr(tokens, Level::Or)?;
+        let condition = self.boxed(tokens, Level::Or)?;
         tokens.expect_word(Keyword::Else)?;
-        let other = self.expr(tokens, Level::Test)?;
-        Ok(Expr::Conditional(
-            Boxed::new(self.alloc, value)?,
-            Boxed::new(self.alloc, condition)?,
-            Boxed::new(self.alloc, other)?,
-        ))
+        let other = self.boxed(tokens, Level::Test)?;
+        Ok(Expr::Conditional(value, condition, other))
     }
 
     /// A conditional, or its value alone.
@@ -135,6 +140,7 @@ impl<F: Fn(Global, &mut Cursor<'_>, usize, Level) -> Result<Expr, Fault>> Gramma
     {
         let value = self.expr(tokens, Level::Or)?;
         if tokens.eat_word(Keyword::If) {
+            let value = Boxed::new(self.alloc, value)?;
             self.conditional(tokens, value)
         } else {
             Ok(value)

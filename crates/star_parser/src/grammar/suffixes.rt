@@ -4,6 +4,7 @@ ghost use Rattle.std.specs.Prelude.{◌≡◌, [], length, IfOk};
 ghost use Rattle.star_parser.specs.Readers as spec;
 ghost use Rattle.star_parser.specs.Verdict.{Reads};
 ghost use Rattle.star_parser.specs.Nests.{Nests};
+ghost use Rattle.star_parser.specs.Slices as slices;
 
 use crate::cursor::Cursor;
 use crate::fault::Fault;
@@ -26,8 +27,26 @@ impl<F: Fn(Global, &mut Cursor<'_>, usize, Level) -> Result<Expr, Fault>> Gramma
         Ok(Some(self.expr(tokens, Level::Test)?))
     }
 
+    /// The second colon of a slice, where it stands, what stands after it, and `]`.
+    #[tactic(auto, unfolding(crate::specs::Slices::slice_step))]
+    fn slice_step(&self, tokens: &mut Cursor<'_>) -> Result<Option<Option<Expr>>, Fault>
+        requires { Nests self.now.depth (F.pre self.now.expr) (F.post self.now.expr) }
+        ensures { Reads (slices.slice_step (spec.expr self.now.depth) tokens.old.rest.now) result tokens.new.rest.now }
+    {
+        if !tokens.eat(Mark::Colon) {
+            tokens.expect(Mark::CloseSquare)?;
+            return Ok(None);
+        }
+        if tokens.eat(Mark::CloseSquare) {
+            return Ok(Some(None));
+        }
+        let step = self.expr(tokens, Level::Test)?;
+        tokens.expect(Mark::CloseSquare)?;
+        Ok(Some(Some(step)))
+    }
+
     /// After the first colon of a slice.
-    #[tactic(auto, unfolding(crate::specs::Readers::slice_after))]
+    #[tactic(auto, using(crate::proofs::SliceSteps::slice_by_step))]
     fn slice_after(
         &self,
         tokens: &mut Cursor<'_>,
@@ -37,16 +56,8 @@ impl<F: Fn(Global, &mut Cursor<'_>, usize, Level) -> Result<Expr, Fault>> Gramma
         ensures { Reads (spec.slice_after (spec.expr self.now.depth) start tokens.old.rest.now) result tokens.new.rest.now }
     {
         let stop = self.bound(tokens)?;
-        if !tokens.eat(Mark::Colon) {
-            tokens.expect(Mark::CloseSquare)?;
-            return Ok(Suffix::Slice(start, stop, None));
-        }
-        if tokens.eat(Mark::CloseSquare) {
-            return Ok(Suffix::Slice(start, stop, Some(None)));
-        }
-        let step = self.expr(tokens, Level::Test)?;
-        tokens.expect(Mark::CloseSquare)?;
-        Ok(Suffix::Slice(start, stop, Some(Some(step))))
+        let step = self.slice_step(tokens)?;
+        Ok(Suffix::Slice(start, stop, step))
     }
 
     /// After `[` and an expression.

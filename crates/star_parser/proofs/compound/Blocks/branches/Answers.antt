@@ -1,0 +1,12 @@
+use Rattle.std.proofs.Common.{rules, arith}
+use Rattle.std.proofs.lemmas.Grind.{common_steps}
+use Rattle.star_parser.specs.Readers.{expr}
+use Rattle.star_parser.specs.StatementReaders.{statement, branches_from}
+use Rattle.star_parser.proofs.Turns.{one_more}
+use Rattle.star_parser.proofs.compound.Blocks.branches.Goals as goal
+
+pub loop-turn-preserved : goal.loop-turn-preserved
+unfolding branches_from
+loop-turn-preserved g c =
+    let e = one_more (λ n. branches_from (expr c.args.self.now.terms.depth) (statement (expr c.args.self.now.terms.depth) c.args.self.now.depth) n c.loop-turn.found c.loop-turn.tokens.rest.now) _ c.loop-turn._turn c.loop-turn-test.true c.loop-turn.invariant in
+    first_of (search rules, grind (arith, common_steps))

@@ -1,0 +1,8 @@
+use Rattle.std.proofs.Common.{◌≡◌, ◌-◌, length, []}
+use Rattle.star_parser.specs.Readers.{expr}
+use Rattle.star_parser.specs.StatementReaders.{statement, cell_from}
+use Rattle.star_parser.proofs.compound.Blocks.statements_of_cell.Given as goal
+
+-- what is read from here in the turns that are left is what all is from the start
+abbrev pub invariant-loop-turn : goal.invariant-loop-turn
+invariant-loop-turn g l = cell_from (expr l.self.terms.depth) (statement (expr l.self.terms.depth) l.self.depth) (length l.fn.tokens.rest.now) [] l.fn.tokens.rest.now ≡ cell_from (expr l.self.terms.depth) (statement (expr l.self.terms.depth) l.self.depth) (l._turn-end - l._turn) l.found l.tokens.rest.now

@@ -1,0 +1,12 @@
+use Rattle.std.proofs.Common.{rules, arith}
+use Rattle.std.proofs.lemmas.Grind.{common_steps}
+use Rattle.star_parser.specs.Readers.{expr}
+use Rattle.star_parser.specs.StatementReaders.{tests_after}
+use Rattle.star_parser.proofs.Turns.{one_more}
+use Rattle.star_parser.proofs.terms.Terms.tests_after.Goals as goal
+
+pub loop-turn-preserved : goal.loop-turn-preserved
+unfolding tests_after
+loop-turn-preserved c =
+    let e = one_more (λ n. tests_after (expr c.args.self.now.depth) n c.loop-turn.found c.loop-turn.tokens.rest.now) _ c.loop-turn._turn c.loop-turn-test.true c.loop-turn.invariant in
+    first_of (search rules, grind (arith, common_steps))
