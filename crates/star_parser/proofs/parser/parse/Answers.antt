@@ -1,4 +1,4 @@
-use Rattle.std.proofs.Common.{◌≡◌, ◌≤◌, ◌<◌, ◌-◌, ℕ, ◌+◌, ◌*◌, length, sym, subst, Ok, Err, arith}
+use Rattle.std.proofs.Common.{◌-◌, length, sym, subst, arith}
 use Rattle.star_parser.specs.Reading.{kinds}
 use Rattle.star_parser.specs.Trees.{IsLeast}
 use Rattle.star_parser.proofs.Texts.{when_read, when_refused}
