@@ -18,3 +18,6 @@ pub mod terms;
 
 pub use fault::ParseFault;
 pub use parser::{one_tree, parse};
+
+#[cfg(test)]
+mod tests;
