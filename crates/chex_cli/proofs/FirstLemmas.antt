@@ -9,7 +9,10 @@ module _ {A B C : Type 0} (Makes : A → B → Type 0) (Wrong : A → C → Type
   pub first_here : (items : List A) (i : ℕ) (made : List B) (x : A) (why : C) → i < length items → x ≡ get_or items i x → AllZip Makes (take i items) made → Wrong x why
       → IsFirst Makes Wrong items (i + 1) why
   first_here items i made x why inside here fine wrong = record {
-    before = take i items; made = made; item = x; after = drop (i + 1) items;
+    before = take i items;
+    made = made;
+    item = x;
+    after = drop (i + 1) items;
     whole = sym (take-append-drop i items) ∙ ap (λ rest. take i items ++ rest) (drop_more items i x inside ∙ ap (λ y. y ∷ drop (i + 1) items) (sym here));
     fine = fine;
     numbered = let long : length (take i items) ≡ i = omega (arith, length-take i items, inside) in ap (λ n. n + 1) (sym long);

@@ -28,7 +28,13 @@ impl BadCell {
     }
 }
 
-fn cell_line(alloc: Global, name: &str, cell: usize, line: u32, kind: &str) -> Result<String, NoMemory>
+fn cell_line(
+    alloc: Global,
+    name: &str,
+    cell: usize,
+    line: u32,
+    kind: &str,
+) -> Result<String, NoMemory>
     ensures { IfOk result (λ text. string_bytes text ≡ spec.cell_line name.now cell line kind.now) }
 {
     Ok(format!(in alloc; "error: {name} cell {cell} line {line}: {kind}\n")?)

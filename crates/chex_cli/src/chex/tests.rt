@@ -494,94 +494,122 @@ fn repeated(alloc: Global, piece: &str, times: u32, between: &str) -> Result<Str
     Ok(text)
 }
 
+/// Calls `chex` over a file `f`, manifests `v` and `w` that name it, and the inputs `i` of `w`.
+fn limited<'x>(alloc: Global, line: &str, bytes: &'x str, names: &'x str) -> Result<Ended, Fail> {
+    run(
+        alloc,
+        line,
+        &[
+            ("f", bytes),
+            ("v", r#"{"versions":[{"name":"v","notebook":"f"}]}"#),
+            (
+                "w",
+                r#"{"versions":[{"name":"v","notebook":"f","inputs":"i"}]}"#,
+            ),
+            ("i", names),
+        ],
+        0,
+        0,
+    )
+}
+
+/// A notebook of so many empty code cells.
+fn empty_cells(alloc: Global, count: u32) -> Result<String, Fail> {
+    let cells = repeated(alloc, r#"{"cell_type":"code","source":""}"#, count, ",")?;
+    Ok(format!(in alloc; "{{\"cells\":[{cells}],\"nbformat\":4}}")?)
+}
+
+/// A notebook of one code cell with a comment of so many bytes.
+fn comment(alloc: Global, count: u32) -> Result<String, Fail> {
+    let source = repeated(alloc, "#", count, "")?;
+    notebook(alloc, &[source.as_str()])
+}
+
 #[test]
-fn counts_are_limited(rt: HostRuntime) -> Result<(), Fail> {
+fn code_cells_are_limited(rt: HostRuntime) -> Result<(), Fail> {
     let alloc = rt.alloc();
-    let code = r#"{"cell_type":"code","source":""}"#;
-    let most_cells = repeated(alloc, code, 64, ",")?;
-    let cells = repeated(alloc, code, 65, ",")?;
-    let most_source = repeated(alloc, "#", 65_536, "")?;
-    let source = repeated(alloc, "#", 65_537, "")?;
+    let most = empty_cells(alloc, 64)?;
+    let ended = limited(alloc, "solo f", most.as_str(), "")?;
+    assert_eq!(rt; ended.written.as_slice(), b"".as_slice());
+    assert_eq!(rt; ended.status, Status::Done);
+    let cells = empty_cells(alloc, 65)?;
+    for line in ["solo f", "alone v"] {
+        let ended = limited(alloc, line, cells.as_str(), "")?;
+        assert_eq!(rt;
+            ended.written.as_slice(),
+            b"error: f: too many code cells: 65\n".as_slice()
+        );
+        assert_eq!(rt; ended.status, Status::TooMany);
+    }
+    Ok(())
+}
+
+#[test]
+fn bytes_are_limited(rt: HostRuntime) -> Result<(), Fail> {
+    let alloc = rt.alloc();
+    let most = comment(alloc, 65_536)?;
+    let ended = limited(alloc, "solo f", most.as_str(), "")?;
+    assert_eq!(rt; ended.written.as_slice(), b"".as_slice());
+    assert_eq!(rt; ended.status, Status::Done);
+    let source = comment(alloc, 65_537)?;
+    let ended = limited(alloc, "solo f", source.as_str(), "")?;
+    assert_eq!(rt;
+        ended.written.as_slice(),
+        b"error: f: too many cell bytes: 65537\n".as_slice()
+    );
+    assert_eq!(rt; ended.status, Status::TooMany);
+    let block = repeated(alloc, " ", 65_536, "")?;
+    let mut spaces = repeated(alloc, block.as_str(), 256, "")?;
+    spaces.push_str(" ")?;
+    let ended = limited(alloc, "solo f", spaces.as_str(), "")?;
+    assert_eq!(rt;
+        ended.written.as_slice(),
+        b"error: f: too many bytes: 16777217\n".as_slice()
+    );
+    assert_eq!(rt; ended.status, Status::TooMany);
+    Ok(())
+}
+
+#[test]
+fn versions_are_limited(rt: HostRuntime) -> Result<(), Fail> {
+    let alloc = rt.alloc();
     let mut versions = String::new(alloc);
+    for number in 0..65 {
+        if number > 0 {
+            versions.push_str(",")?;
+        }
+        versions.push_str(format!(in alloc;
+            "{{\"name\":\"v{number}\",\"notebook\":\"n\"}}"
+        )?.as_str())?;
+    }
+    let manifest = format!(in alloc; "{{\"versions\":[{versions}]}}")?;
+    let ended = limited(alloc, "alone f", manifest.as_str(), "")?;
+    assert_eq!(rt;
+        ended.written.as_slice(),
+        b"error: f: too many versions: 65\n".as_slice()
+    );
+    assert_eq!(rt; ended.status, Status::TooMany);
+    Ok(())
+}
+
+#[test]
+fn inputs_are_limited(rt: HostRuntime) -> Result<(), Fail> {
+    let alloc = rt.alloc();
     let mut names = String::new(alloc);
     for number in 0..257 {
         if number > 0 {
             names.push_str(",")?;
         }
         names.push_str(format!(in alloc; "\"n{number}\":1")?.as_str())?;
-        if number < 65 {
-            if number > 0 {
-                versions.push_str(",")?;
-            }
-            versions.push_str(format!(in alloc;
-                "{{\"name\":\"v{number}\",\"notebook\":\"n\"}}"
-            )?.as_str())?;
-        }
     }
-    let most_cells = format!(in alloc; "{{\"cells\":[{most_cells}],\"nbformat\":4}}")?;
-    let cells = format!(in alloc; "{{\"cells\":[{cells}],\"nbformat\":4}}")?;
-    let most_source = notebook(alloc, &[most_source.as_str()])?;
-    let source = notebook(alloc, &[source.as_str()])?;
-    let versions = format!(in alloc; "{{\"versions\":[{versions}]}}")?;
-    let names = format!(in alloc; "{{{names}}}")?;
-    let spaces = repeated(alloc, " ", 16_777_217, "")?;
-    let version = r#"{"versions":[{"name":"v","notebook":"f"}]}"#;
-    let inputs = r#"{"versions":[{"name":"v","notebook":"f","inputs":"i"}]}"#;
-    for (line, bytes, status, written) in [
-        ("solo f", most_cells.as_str(), Status::Done, ""),
-        (
-            "solo f",
-            cells.as_str(),
-            Status::TooMany,
-            "error: f: too many code cells: 65\n",
-        ),
-        ("solo f", most_source.as_str(), Status::Done, ""),
-        (
-            "solo f",
-            source.as_str(),
-            Status::TooMany,
-            "error: f: too many cell bytes: 65537\n",
-        ),
-        (
-            "alone f",
-            versions.as_str(),
-            Status::TooMany,
-            "error: f: too many versions: 65\n",
-        ),
-        (
-            "solo f",
-            spaces.as_str(),
-            Status::TooMany,
-            "error: f: too many bytes: 16777217\n",
-        ),
-        (
-            "alone v",
-            cells.as_str(),
-            Status::TooMany,
-            "error: f: too many code cells: 65\n",
-        ),
-        (
-            "alone w",
-            most_cells.as_str(),
-            Status::TooMany,
-            "error: i: too many inputs: 257\n",
-        ),
-    ] {
-        let ended = run(
-            alloc,
-            line,
-            &[
-                ("f", bytes),
-                ("v", version),
-                ("w", inputs),
-                ("i", names.as_str()),
-            ],
-            0,
-            0,
-        )?;
-        assert_eq!(rt; ended.written.as_slice(), written.as_bytes());
-        assert_eq!(rt; ended.status, status);
-    }
+    let inputs = format!(in alloc; "{{{names}}}")?;
+    let cells = empty_cells(alloc, 64)?;
+    let ended = limited(alloc, "alone w", cells.as_str(), inputs.as_str())?;
+    assert_eq!(rt;
+        ended.written.as_slice(),
+        b"error: i: too many inputs: 257\n".as_slice()
+    );
+    assert_eq!(rt; ended.status, Status::TooMany);
     Ok(())
 }
 
