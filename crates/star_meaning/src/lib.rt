@@ -1,0 +1,10 @@
+//! What cells mean.
+//!
+//! The definitions of the language's running: states, values, operations with their charges,
+//! expressions, statements, cells and programs. The files of `specs/` are read top to bottom; the
+//! functions here show by their contracts what the definitions give. Nothing here runs a cell.
+#![tactic(auto)]
+
+pub mod ran;
+
+pub use ran::{End, Ran};
