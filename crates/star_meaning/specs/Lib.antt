@@ -4,3 +4,7 @@ pub mod Values
 pub mod Comparing
 pub mod Showing
 pub mod Operators
+pub mod Builtins
+pub mod Methods
+pub mod World
+pub mod Expressions

@@ -145,14 +145,6 @@ charge_items items = charge (sum_of_weights items)
 abbrev pub charge_weight : {C : Type 0} → Value → Action C (Unit {0})
 charge_weight v = charge (weight v)
 
--- one step, the operation with its own charges, and the weight of its result, of which 1 is paid already
-unfoldable pub operation : {C : Type 0} → Action C Value → Action C Value
-operation p = do
-  charge 1
-  v ← p
-  charge (weight v - 1)
-  pure v
-
 -- tuples nest at most 64 deep
 abbrev pub check_depth : {C : Type 0} → Value → Action C (Unit {0})
 check_depth v = if nat_lt 64 (depth v) then fail failure.TooDeep else pure tt
