@@ -8,3 +8,5 @@ pub mod Builtins
 pub mod Methods
 pub mod World
 pub mod Expressions
+pub mod Statements
+pub mod Cells

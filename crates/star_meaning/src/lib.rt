@@ -5,6 +5,8 @@
 //! functions here show by their contracts what the definitions give. Nothing here runs a cell.
 #![tactic(auto)]
 
+pub mod flow;
 pub mod ran;
 
+pub use flow::Flow;
 pub use ran::{End, Ran};
