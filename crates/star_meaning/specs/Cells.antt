@@ -62,12 +62,12 @@ ran s cell inputs allowance = run (shown_setting cell inputs) cell.«module» al
 
 -- ---- versions, each by itself from the empty state
 
-abbrev pub if_done : End → List Ran → List Ran
-if_done end.Done more = more
-if_done (end.Failed kind line) more = []
+abbrev pub if_done : End → (Shown → List Ran) → Shown → List Ran
+if_done end.Done rest s = rest s
+if_done (end.Failed kind line) rest s = []
 
 abbrev pub runs_after : Ran × Shown → (Shown → List Ran) → List Ran
-runs_after r rest = r.0 ∷ if_done r.0.end (rest r.1)
+runs_after r rest = r.0 ∷ if_done r.0.end rest r.1
 
 -- the cells in order, up to and with the first that fails
 abbrev pub runs_from : Shown → List CellParts → List (List ℕ × Input) → ℕ → List Ran

@@ -10,3 +10,7 @@ pub mod World
 pub mod Expressions
 pub mod Statements
 pub mod Cells
+pub mod Trees
+pub mod WorkedRows
+pub mod Validity
+pub mod Agreement

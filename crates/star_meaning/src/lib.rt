@@ -7,6 +7,7 @@
 
 pub mod flow;
 pub mod ran;
+pub mod rows;
 
 pub use flow::Flow;
 pub use ran::{End, Ran};
