@@ -1,5 +1,6 @@
 -- The worked rows hold by evaluation.
-use Rattle.std.proofs.Common.{refl}
+use Rattle.star_meaning.proofs.Equations.{layers}
+use Rattle.std.specs.Fmt.{digits}
 use Rattle.star_syntax.specs.Cells.{def_of}
 use Rattle.star_syntax.specs.Placement.{is_input}
 use Rattle.star_meaning.specs.State.{global, object, list, dict, function, set_global, next_id, with_new, with_list, with_dict, dict_get, dict_put}
@@ -15,5 +16,5 @@ use Rattle.star_meaning.specs.Cells.{run, ran, runs}
 use Rattle.star_meaning.specs.WorkedRows.{ThreeIsWritten}
 
 pub three : ThreeIsWritten
-unfolding def_of is_input global object charge in_range is_true builtin_of builtin_name made quoted_in quoted shown binary call_builtin located acting operation write look_up values named_values called meant kind_of small_of statement_of call_to echo run ran runs
-three = refl
+unfolding lib.Utf8.encode digits is_input global object charge in_range is_true builtin_of builtin_name made quoted_in quoted shown binary call_builtin located acting operation write look_up values named_values called kind_of small_of call_to echo run ran runs
+three = simp layers
