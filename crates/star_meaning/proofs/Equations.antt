@@ -1,8 +1,9 @@
 -- What the variants of values, keys and trees are, layer by layer.
-use Rattle.std.proofs.Common.{◌≡◌, ℕ, ℤ, ◌+◌, List, [], ◌∷◌, Bool, Option, Some, None, map, length, refl, sym, ap, ◌∙◌}
+use Rattle.std.proofs.Common.{◌≡◌, ℕ, zero, suc, ℤ, ◌+◌, List, [], ◌∷◌, Bool, Option, Some, None, map, length, refl, sym, ap, ◌∙◌}
 use Rattle.std.specs.Prelude.{sum, option_map}
 use Rattle.star_syntax.specs.declared.expression.ChainLevel.{ChainLevel}
 use Rattle.star_syntax.specs.declared.expression.Clause.{Clause}
+use Rattle.star_syntax.specs.declared.expression.Clause.TheVariants as clause
 use Rattle.star_syntax.specs.declared.expression.Expr.{Expr, fold-roll-Expr, map-Expr, roll-Expr}
 use Rattle.star_syntax.specs.declared.expression.Expr.TheOpen.{Expr-F}
 use Rattle.star_syntax.specs.declared.expression.Expr.TheVariants as e
@@ -26,12 +27,19 @@ use Rattle.star_value.specs.declared.range.Range.{Range}
 use Rattle.star_value.specs.declared.value.Value.{Value, out-Value, out-roll-Value, fold-roll-Value}
 use Rattle.star_value.specs.declared.value.Value.TheOpen.{Value-F}
 use Rattle.star_value.specs.declared.value.Value.TheVariants as value
+use Rattle.star_value.specs.KeyLaws.{same_key-roll}
+use Rattle.star_value.specs.KeyOrder.{same_key, same_layer}
 use Rattle.star_value.specs.Keys.{all_some, key_of, key_step, value_of, value_step}
 use Rattle.star_value.specs.Weight.{depth, depth_step, greatest, weight, weight_step}
+use Rattle.star_meaning.specs.State.{function}
+use Rattle.star_meaning.specs.Steps.{Store, charge, ◌>>=◌, ◌>>◌}
+use Rattle.star_meaning.specs.Comparing.{compared, look, own_part}
+use Rattle.star_meaning.specs.Showing.{Naming, quoted_at, quoted_in}
+use Rattle.star_meaning.specs.Builtins.{ByName}
 use Rattle.star_meaning.specs.Expressions as expressions
 use Rattle.star_meaning.specs.Expressions.{Setting, Callee, Meant, meant, step, target_names}
-use Rattle.star_meaning.specs.World.{World}
-use Rattle.star_meaning.specs.Statements.{Doing, layer_names, layer_of, statement_names, statement_of}
+use Rattle.star_meaning.specs.World.{World, seen}
+use Rattle.star_meaning.specs.Statements.{Doing, call_to, run_function, layer_names, layer_of, statement_names, statement_of}
 use Rattle.star_syntax.specs.Cells.{def_of, layer_def}
 
 -- ---- values
@@ -171,12 +179,66 @@ value_text points = ap value_of (sym (key.rolls-Text points)) ∙ fold-roll-Key 
 pub value_tuple : (items : List Key) → value_of (key.Tuple items) ≡ value.Tuple (map value_of items)
 value_tuple items = ap value_of (sym (key.rolls-Tuple items)) ∙ fold-roll-Key Value value_step (Key-F.Tuple items)
 
+-- ---- keys
+
+pub out_key_none : out-Key key.None ≡ Key-F.None
+out_key_none = ap out-Key (sym key.rolls-None) ∙ out-roll-Key Key-F.None
+
+pub out_key_bool : (b : Bool) → out-Key (key.Bool b) ≡ Key-F.Bool b
+out_key_bool b = ap out-Key (sym (key.rolls-Bool b)) ∙ out-roll-Key (Key-F.Bool b)
+
+pub out_key_int : (z : ℤ) → out-Key (key.Int z) ≡ Key-F.Int z
+out_key_int z = ap out-Key (sym (key.rolls-Int z)) ∙ out-roll-Key (Key-F.Int z)
+
+pub out_key_text : (points : List ℕ) → out-Key (key.Text points) ≡ Key-F.Text points
+out_key_text points = ap out-Key (sym (key.rolls-Text points)) ∙ out-roll-Key (Key-F.Text points)
+
+pub out_key_tuple : (items : List Key) → out-Key (key.Tuple items) ≡ Key-F.Tuple items
+out_key_tuple items = ap out-Key (sym (key.rolls-Tuple items)) ∙ out-roll-Key (Key-F.Tuple items)
+
+pub same_none : (other : Key) → same_key key.None other ≡ same_layer Key-F.None (out-Key other)
+same_none other = ap (λ k. same_key k other) (sym key.rolls-None) ∙ same_key-roll Key-F.None other
+
+pub same_bool : (b : Bool) → (other : Key) → same_key (key.Bool b) other ≡ same_layer (Key-F.Bool b) (out-Key other)
+same_bool b other = ap (λ k. same_key k other) (sym (key.rolls-Bool b)) ∙ same_key-roll (Key-F.Bool b) other
+
+pub same_int : (z : ℤ) → (other : Key) → same_key (key.Int z) other ≡ same_layer (Key-F.Int z) (out-Key other)
+same_int z other = ap (λ k. same_key k other) (sym (key.rolls-Int z)) ∙ same_key-roll (Key-F.Int z) other
+
+pub same_text : (points : List ℕ) → (other : Key) → same_key (key.Text points) other ≡ same_layer (Key-F.Text points) (out-Key other)
+same_text points other = ap (λ k. same_key k other) (sym (key.rolls-Text points)) ∙ same_key-roll (Key-F.Text points) other
+
+pub same_tuple : (items : List Key) → (other : Key) → same_key (key.Tuple items) other ≡ same_layer (Key-F.Tuple (map same_key items)) (out-Key other)
+same_tuple items other = ap (λ k. same_key k other) (sym (key.rolls-Tuple items)) ∙ same_key-roll (Key-F.Tuple items) other
+
 -- ---- the meaning of each form of a tree
+
+clauses_in : {X : Type 0} → Expr-F X → List (Clause X)
+clauses_in (Expr-F.ListOver x clauses) = clauses
+clauses_in (Expr-F.DictOver k v clauses) = clauses
+clauses_in _ = []
 
 module _ {C : Type 0} (setting : Setting C) (call : Callee C) where
   meant_roll : (x : Expr-F Expr) → meant setting call (roll-Expr x) ≡ step setting call (map-Expr Expr (Meant C) (meant setting call) x)
   unfolding meant
   meant_roll x = fold-roll-Expr (Meant C) (step setting call) x
+
+  -- the clauses of a comprehension, each with the meaning of its parts
+  abbrev clause_meant : Clause Expr → Clause (Meant C)
+  clause_meant (clause.For targets over) = clause.For (map (meant setting call) targets) (meant setting call over)
+  clause_meant (clause.If condition) = clause.If (meant setting call condition)
+
+  list_clauses : (x : Expr) (cs : List (Clause Expr)) → clauses_in (map-Expr Expr (Meant C) (meant setting call) (Expr-F.ListOver x cs)) ≡ map clause_meant cs
+  unfolding clauses_in
+  list_clauses x [] = refl
+  list_clauses x (clause.For targets over ∷ cs) = ap (λ r. clause.For (map (meant setting call) targets) (meant setting call over) ∷ r) (list_clauses x cs)
+  list_clauses x (clause.If condition ∷ cs) = ap (λ r. clause.If (meant setting call condition) ∷ r) (list_clauses x cs)
+
+  dict_clauses : (k v : Expr) (cs : List (Clause Expr)) → clauses_in (map-Expr Expr (Meant C) (meant setting call) (Expr-F.DictOver k v cs)) ≡ map clause_meant cs
+  unfolding clauses_in
+  dict_clauses k v [] = refl
+  dict_clauses k v (clause.For targets over ∷ cs) = ap (λ r. clause.For (map (meant setting call) targets) (meant setting call over) ∷ r) (dict_clauses k v cs)
+  dict_clauses k v (clause.If condition ∷ cs) = ap (λ r. clause.If (meant setting call condition) ∷ r) (dict_clauses k v cs)
 
   pub meant_name : (name : List ℕ) → meant setting call (e.Name name) ≡ step setting call (map-Expr Expr (Meant C) (meant setting call) (Expr-F.Name name))
   meant_name name = ap (meant setting call) (sym (e.rolls-Name name)) ∙ meant_roll (Expr-F.Name name)
@@ -205,14 +267,20 @@ module _ {C : Type 0} (setting : Setting C) (call : Callee C) where
   pub meant_list : (xs : List Expr) → (comma : Bool) → meant setting call (e.List xs comma) ≡ step setting call (map-Expr Expr (Meant C) (meant setting call) (Expr-F.List xs comma))
   meant_list xs comma = ap (meant setting call) (sym (e.rolls-List xs comma)) ∙ meant_roll (Expr-F.List xs comma)
 
-  pub meant_listover : (x : Expr) → (clauses : List (Clause Expr)) → meant setting call (e.ListOver x clauses) ≡ step setting call (map-Expr Expr (Meant C) (meant setting call) (Expr-F.ListOver x clauses))
-  meant_listover x clauses = ap (meant setting call) (sym (e.rolls-ListOver x clauses)) ∙ meant_roll (Expr-F.ListOver x clauses)
+  pub meant_listover : (x : Expr) → (clauses : List (Clause Expr)) → meant setting call (e.ListOver x clauses) ≡ step setting call (Expr-F.ListOver (meant setting call x) (map clause_meant clauses))
+  unfolding clauses_in
+  meant_listover x clauses =
+      ap (meant setting call) (sym (e.rolls-ListOver x clauses)) ∙ meant_roll (Expr-F.ListOver x clauses)
+      ∙ ap (λ cs. step setting call (Expr-F.ListOver (meant setting call x) cs)) (list_clauses x clauses)
 
   pub meant_dict : (pairs : List (Pair Expr)) → (comma : Bool) → meant setting call (e.Dict pairs comma) ≡ step setting call (map-Expr Expr (Meant C) (meant setting call) (Expr-F.Dict pairs comma))
   meant_dict pairs comma = ap (meant setting call) (sym (e.rolls-Dict pairs comma)) ∙ meant_roll (Expr-F.Dict pairs comma)
 
-  pub meant_dictover : (k : Expr) → (v : Expr) → (clauses : List (Clause Expr)) → meant setting call (e.DictOver k v clauses) ≡ step setting call (map-Expr Expr (Meant C) (meant setting call) (Expr-F.DictOver k v clauses))
-  meant_dictover k v clauses = ap (meant setting call) (sym (e.rolls-DictOver k v clauses)) ∙ meant_roll (Expr-F.DictOver k v clauses)
+  pub meant_dictover : (k : Expr) → (v : Expr) → (clauses : List (Clause Expr)) → meant setting call (e.DictOver k v clauses) ≡ step setting call (Expr-F.DictOver (meant setting call k) (meant setting call v) (map clause_meant clauses))
+  unfolding clauses_in
+  meant_dictover k v clauses =
+      ap (meant setting call) (sym (e.rolls-DictOver k v clauses)) ∙ meant_roll (Expr-F.DictOver k v clauses)
+      ∙ ap (λ cs. step setting call (Expr-F.DictOver (meant setting call k) (meant setting call v) cs)) (dict_clauses k v clauses)
 
   pub meant_primary : (head : Expr) → (suffixes : List (Suffix Expr)) → meant setting call (e.Primary head suffixes) ≡ step setting call (map-Expr Expr (Meant C) (meant setting call) (Expr-F.Primary head suffixes))
   meant_primary head suffixes = ap (meant setting call) (sym (e.rolls-Primary head suffixes)) ∙ meant_roll (Expr-F.Primary head suffixes)
@@ -354,4 +422,42 @@ pub def_def : (at : ℕ) → (def : Definition Statement) → def_of (s.Def at d
 unfolding def_of
 def_def at def = ap def_of (sym (s.rolls-Def at def)) ∙ ap layer_def (out-roll-Statement (Statement-F.Def at def))
 
-pub ruleset layers = (out_none, out_bool, out_int, out_text, out_tuple, out_range, out_list, out_dict, out_function, out_builtin, weight_none, weight_bool, weight_int, weight_text, weight_tuple, weight_range, weight_list, weight_dict, weight_function, weight_builtin, depth_none, depth_bool, depth_int, depth_text, depth_tuple, depth_range, depth_list, depth_dict, depth_function, depth_builtin, key_none, key_bool, key_int, key_text, key_tuple, key_range, key_list, key_dict, key_function, key_builtin, value_none, value_bool, value_int, value_text, value_tuple, meant_name, meant_int, meant_text, meant_none, meant_true, meant_false, meant_paren, meant_tuple, meant_list, meant_listover, meant_dict, meant_dictover, meant_primary, meant_signed, meant_chain, meant_compare, meant_not, meant_conditional, statement_line, statement_if, statement_for, statement_def, names_name, names_int, names_text, names_none, names_true, names_false, names_paren, names_tuple, names_list, names_listover, names_dict, names_dictover, names_primary, names_signed, names_chain, names_compare, names_not, names_conditional, bound_line, bound_if, bound_for, bound_def, def_line, def_if, def_for, def_def)
+-- ---- what may nest so deep: one level less inside
+
+quoted_step : {C : Type 0} (naming : Naming C) (n : ℕ) (v : Value) (s : Store C) → quoted_in naming (suc n) v s ≡ quoted_at naming (Some (quoted_in naming n)) (out-Value v) s
+unfolding quoted_in
+quoted_step naming n v s = refl
+
+compared_step : {C : Type 0} (by_length : Bool) (n : ℕ) (a b : Value) (s : Store C) → compared by_length (suc n) a b s ≡ (charge (own_part a b) >> look by_length (Some (compared by_length n)) (out-Value a) (out-Value b)) s
+unfolding compared
+compared_step by_length n a b s = refl
+
+call_step : {C : Type 0} (setting : Setting C) (n id : ℕ) (vs : List Value) (named : ByName) (w : World C) → call_to setting (suc n) id vs named w ≡ (seen (λ s. function s id) >>= (λ parts. run_function setting (call_to setting n) id parts vs named)) w
+unfolding call_to
+call_step setting n id vs named w = refl
+
+pub quoted_64 : {C : Type 0} (naming : Naming C) (v : Value) (s : Store C) → quoted_in naming 64 v s ≡ quoted_at naming (Some (quoted_in naming 63)) (out-Value v) s
+quoted_64 naming v s = quoted_step naming 63 v s
+
+pub compared_64 : {C : Type 0} (by_length : Bool) (a b : Value) (s : Store C) → compared by_length 64 a b s ≡ (charge (own_part a b) >> look by_length (Some (compared by_length 63)) (out-Value a) (out-Value b)) s
+compared_64 by_length a b s = compared_step by_length 63 a b s
+
+pub quoted_63 : {C : Type 0} (naming : Naming C) (v : Value) (s : Store C) → quoted_in naming 63 v s ≡ quoted_at naming (Some (quoted_in naming 62)) (out-Value v) s
+quoted_63 naming v s = quoted_step naming 62 v s
+
+pub compared_63 : {C : Type 0} (by_length : Bool) (a b : Value) (s : Store C) → compared by_length 63 a b s ≡ (charge (own_part a b) >> look by_length (Some (compared by_length 62)) (out-Value a) (out-Value b)) s
+compared_63 by_length a b s = compared_step by_length 62 a b s
+
+pub quoted_62 : {C : Type 0} (naming : Naming C) (v : Value) (s : Store C) → quoted_in naming 62 v s ≡ quoted_at naming (Some (quoted_in naming 61)) (out-Value v) s
+quoted_62 naming v s = quoted_step naming 61 v s
+
+pub compared_62 : {C : Type 0} (by_length : Bool) (a b : Value) (s : Store C) → compared by_length 62 a b s ≡ (charge (own_part a b) >> look by_length (Some (compared by_length 61)) (out-Value a) (out-Value b)) s
+compared_62 by_length a b s = compared_step by_length 61 a b s
+
+pub call_32 : {C : Type 0} (setting : Setting C) (id : ℕ) (vs : List Value) (named : ByName) (w : World C) → call_to setting 32 id vs named w ≡ (seen (λ s. function s id) >>= (λ parts. run_function setting (call_to setting 31) id parts vs named)) w
+call_32 setting id vs named w = call_step setting 31 id vs named w
+
+pub call_31 : {C : Type 0} (setting : Setting C) (id : ℕ) (vs : List Value) (named : ByName) (w : World C) → call_to setting 31 id vs named w ≡ (seen (λ s. function s id) >>= (λ parts. run_function setting (call_to setting 30) id parts vs named)) w
+call_31 setting id vs named w = call_step setting 30 id vs named w
+
+pub ruleset layers = (quoted_64, compared_64, quoted_63, compared_63, quoted_62, compared_62, call_32, call_31, out_key_none, out_key_bool, out_key_int, out_key_text, out_key_tuple, same_none, same_bool, same_int, same_text, same_tuple, out_none, out_bool, out_int, out_text, out_tuple, out_range, out_list, out_dict, out_function, out_builtin, weight_none, weight_bool, weight_int, weight_text, weight_tuple, weight_range, weight_list, weight_dict, weight_function, weight_builtin, depth_none, depth_bool, depth_int, depth_text, depth_tuple, depth_range, depth_list, depth_dict, depth_function, depth_builtin, key_none, key_bool, key_int, key_text, key_tuple, key_range, key_list, key_dict, key_function, key_builtin, value_none, value_bool, value_int, value_text, value_tuple, meant_name, meant_int, meant_text, meant_none, meant_true, meant_false, meant_paren, meant_tuple, meant_list, meant_listover, meant_dict, meant_dictover, meant_primary, meant_signed, meant_chain, meant_compare, meant_not, meant_conditional, statement_line, statement_if, statement_for, statement_def, names_name, names_int, names_text, names_none, names_true, names_false, names_paren, names_tuple, names_list, names_listover, names_dict, names_dictover, names_primary, names_signed, names_chain, names_compare, names_not, names_conditional, bound_line, bound_if, bound_for, bound_def, def_line, def_if, def_for, def_def)

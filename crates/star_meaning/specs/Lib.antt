@@ -11,6 +11,6 @@ pub mod Expressions
 pub mod Statements
 pub mod Cells
 pub mod Trees
-pub mod WorkedRows
+pub mod Rows
 pub mod Validity
 pub mod Agreement

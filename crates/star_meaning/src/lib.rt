@@ -7,7 +7,7 @@
 
 pub mod flow;
 pub mod ran;
-pub mod rows;
+pub mod tables;
 
 pub use flow::Flow;
 pub use ran::{End, Ran};
