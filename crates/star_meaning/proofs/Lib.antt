@@ -1,3 +1,4 @@
 pub mod Equations
 pub mod Evaluated
 pub mod OneCell
+pub mod Sequences

@@ -10,3 +10,4 @@ pub mod DictMethods
 pub mod TextMethods
 pub mod Failures
 pub mod Cells
+pub mod LongCells
