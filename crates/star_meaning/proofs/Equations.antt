@@ -461,3 +461,6 @@ pub call_31 : {C : Type 0} (setting : Setting C) (id : ℕ) (vs : List Value) (n
 call_31 setting id vs named w = call_step setting 30 id vs named w
 
 pub ruleset layers = (quoted_64, compared_64, quoted_63, compared_63, quoted_62, compared_62, call_32, call_31, out_key_none, out_key_bool, out_key_int, out_key_text, out_key_tuple, same_none, same_bool, same_int, same_text, same_tuple, out_none, out_bool, out_int, out_text, out_tuple, out_range, out_list, out_dict, out_function, out_builtin, weight_none, weight_bool, weight_int, weight_text, weight_tuple, weight_range, weight_list, weight_dict, weight_function, weight_builtin, depth_none, depth_bool, depth_int, depth_text, depth_tuple, depth_range, depth_list, depth_dict, depth_function, depth_builtin, key_none, key_bool, key_int, key_text, key_tuple, key_range, key_list, key_dict, key_function, key_builtin, value_none, value_bool, value_int, value_text, value_tuple, meant_name, meant_int, meant_text, meant_none, meant_true, meant_false, meant_paren, meant_tuple, meant_list, meant_listover, meant_dict, meant_dictover, meant_primary, meant_signed, meant_chain, meant_compare, meant_not, meant_conditional, statement_line, statement_if, statement_for, statement_def, names_name, names_int, names_text, names_none, names_true, names_false, names_paren, names_tuple, names_list, names_listover, names_dict, names_dictover, names_primary, names_signed, names_chain, names_compare, names_not, names_conditional, bound_line, bound_if, bound_for, bound_def, def_line, def_if, def_for, def_def)
+
+-- what is written of values whose parts are known
+pub ruleset values_shown = (out_none, out_bool, out_int, out_text, out_tuple, out_range, out_list, out_dict, out_function, out_builtin, weight_none, weight_bool, weight_int, weight_text, weight_tuple, weight_range, weight_list, weight_dict, weight_function, weight_builtin, value_none, value_bool, value_int, value_text, value_tuple, quoted_64, quoted_63, quoted_62)
