@@ -188,14 +188,14 @@ comprehension (clause.For targets over ∷ more) inner a = do
   v ← over.value
   acting (charge 1)
   in_block (unbound (distinct (flat_map clause_names (clause.For targets over ∷ more))))
-    (loop_over (λ x b. next_item targets x >> clauses_from more inner b) v a)
+      (loop_over (λ x b. next_item targets x >> clauses_from more inner b) v a)
 comprehension _ inner a = pure a
 
-abbrev pub list_turn : {C : Type 0} → Meant C → List Value → Work C (List Value)
+unfoldable pub list_turn : {C : Type 0} → Meant C → List Value → Work C (List Value)
 list_turn m done = m.value >>= (λ v. pure (done ++ v ∷ []))
 
 -- a key that stood before keeps its place and takes the new value
-abbrev pub dict_turn : {C : Type 0} → Meant C → Meant C → List (Key × Value) → Work C (List (Key × Value))
+unfoldable pub dict_turn : {C : Type 0} → Meant C → Meant C → List (Key × Value) → Work C (List (Key × Value))
 dict_turn k' v' done = do
   k ← k'.value
   v ← v'.value

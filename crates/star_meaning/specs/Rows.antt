@@ -10,4 +10,5 @@ pub mod DictMethods
 pub mod TextMethods
 pub mod Failures
 pub mod Cells
+pub mod Turns
 pub mod LongCells

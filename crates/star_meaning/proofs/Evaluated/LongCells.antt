@@ -145,6 +145,6 @@ pub long_cells_hold : LongCells
 unfolding lib.Utf8.encode digits is_input text_find text_pieces split_white stripped format_parts global object list dict function set_global next_id with_new with_list with_dict dict_get dict_put dict_without charge in_range place_of integers_of range_gives is_true items_in items_of new_tuple new_list new_dict new_function builtin_of builtin_name type_name own_part equal in_order_of_comparing search_in within compare_values in_order_of_builtins len read_int range zip extreme call_builtin made quoted_text range_text quoted shown binary unary index taken slice check_unlocked store extend augmented unpacked call_method located acting operation write look_up bind distinct in_block locking in_function values named_values store_items next_item loop_over read_input called method_called store_at echo kind_of small_of repeated defined filled local_block run_body run ran runs
 long_cells_hold = record {
   sales = one_cell (λ st call. simp (dict_made, total_zero, added, shown_last, def_line, def_for));
-  many = one_cell (λ st call. simp (all_is, def_line));
+  many = one_cell (λ st call. simp all_is);
   itself_printed = record { hold = simp (deep_64, layers) };
 }
