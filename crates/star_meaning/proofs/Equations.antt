@@ -1,5 +1,5 @@
 -- What the variants of values, keys and trees are, layer by layer.
-use Rattle.std.proofs.Common.{◌≡◌, ℕ, zero, suc, ℤ, ◌+◌, List, [], ◌∷◌, Bool, Option, Some, None, map, length, refl, sym, ap, ◌∙◌}
+use Rattle.std.proofs.Common.{◌≡◌, ℕ, suc, ℤ, ◌+◌, List, [], ◌∷◌, Bool, Option, Some, None, map, length, refl, sym, ap, ◌∙◌}
 use Rattle.std.specs.Prelude.{sum, option_map}
 use Rattle.star_syntax.specs.declared.expression.ChainLevel.{ChainLevel}
 use Rattle.star_syntax.specs.declared.expression.Clause.{Clause}
@@ -16,7 +16,7 @@ use Rattle.star_syntax.specs.declared.statement.Block.{Block}
 use Rattle.star_syntax.specs.declared.statement.Branch.{Branch}
 use Rattle.star_syntax.specs.declared.statement.Definition.{Definition}
 use Rattle.star_syntax.specs.declared.statement.Line.{Line}
-use Rattle.star_syntax.specs.declared.statement.Statement.{Statement, fold-roll-Statement, map-Statement, out-Statement, out-roll-Statement, roll-Statement}
+use Rattle.star_syntax.specs.declared.statement.Statement.{Statement, fold-roll-Statement, map-Statement, out-roll-Statement, roll-Statement}
 use Rattle.star_syntax.specs.declared.statement.Statement.TheOpen.{Statement-F}
 use Rattle.star_syntax.specs.declared.statement.Statement.TheVariants as s
 use Rattle.star_value.specs.declared.builtin.Builtin.{Builtin}

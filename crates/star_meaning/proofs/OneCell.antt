@@ -1,10 +1,10 @@
 -- A cell whose meaning does not hang on its setting.
-use Rattle.std.proofs.Common.{◌≡◌, ℕ, List, [], ◌∷◌, refl, ap, ◌∙◌}
+use Rattle.std.proofs.Common.{◌≡◌, [], ◌∷◌, refl, ap, ◌∙◌}
 use Rattle.star_syntax.specs.CellParts.{CellParts}
 use Rattle.star_meaning.specs.declared.ran.End.{End}
 use Rattle.star_meaning.specs.declared.ran.End.TheVariants as end
 use Rattle.star_meaning.specs.declared.ran.Ran.{Ran}
-use Rattle.star_meaning.specs.State.{State, empty}
+use Rattle.star_meaning.specs.State.{empty}
 use Rattle.star_meaning.specs.World.{start}
 use Rattle.star_meaning.specs.Expressions.{Setting, Callee}
 use Rattle.star_meaning.specs.Statements.{call_to}

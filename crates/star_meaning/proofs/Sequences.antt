@@ -1,10 +1,10 @@
 -- One after another: statements, turns and operands whose outcomes are known.
-use Rattle.std.proofs.Common.{◌≡◌, ℕ, ◌+◌, List, [], ◌∷◌, ◌++◌, refl, ap, ◌∙◌}
+use Rattle.std.proofs.Common.{◌≡◌, ℕ, ◌+◌, List, [], ◌∷◌, ◌++◌, ap, ◌∙◌}
 use Rattle.star_syntax.specs.declared.statement.Statement.{Statement}
 use Rattle.star_value.specs.declared.value.Value.{Value}
 use Rattle.star_meaning.specs.declared.flow.Flow.{Flow}
 use Rattle.star_meaning.specs.declared.flow.Flow.TheVariants as flow
-use Rattle.star_meaning.specs.Steps.{Went, and_then, ◌>>=◌, ◌>>◌}
+use Rattle.star_meaning.specs.Steps.{Went, and_then}
 use Rattle.star_meaning.specs.Values.{is_empty}
 use Rattle.star_meaning.specs.World.{Course, World}
 use Rattle.star_meaning.specs.Expressions.{Setting, Callee, Meant, values_from}

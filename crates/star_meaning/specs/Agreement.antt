@@ -1,5 +1,5 @@
 -- When two input maps are alike for a cell.
-use Rattle.std.specs.Prelude.{◌≡◌, ℕ, List, Option}
+use Rattle.std.specs.Prelude.{◌≡◌, ℕ, List}
 use Rattle.std.specs.List.{All}
 use Rattle.chex_base.specs.declared.input.Input.{Input}
 use Rattle.chex_base.specs.Inputs.{value_of}

@@ -1,6 +1,6 @@
 -- The built-in functions: one definition for each row of the table in docs/LANGUAGE.md.
 -- The first charge of 1 and the charge of the result's weight are those of `operation`.
-use Rattle.std.specs.Prelude.{ℕ, zero, suc, ◌+◌, ◌-◌, ◌*◌, ◌==◌, nat_le, Bool, true, false, not, ◌&&◌, if◌then◌else◌, List, [], ◌∷◌, ◌++◌, map, length, reverse, Option, Some, None, option_map, ℤ, pos, negsuc, ◌+ℤ◌, neg_ℤ, int_lt, unsigned_abs, codes, bytes_eq}
+use Rattle.std.specs.Prelude.{ℕ, ◌+◌, ◌-◌, ◌*◌, ◌==◌, nat_le, Bool, true, false, ◌&&◌, if◌then◌else◌, List, [], ◌∷◌, map, length, reverse, Option, Some, None, option_map, ℤ, pos, ◌+ℤ◌, neg_ℤ, int_lt, unsigned_abs, codes, bytes_eq}
 use Rattle.std.specs.List.{list_all, list_any}
 use Rattle.std.specs.Ordering.{is_lt}
 use Rattle.chex_base.specs.TextOrder.{text_cmp}
@@ -13,7 +13,7 @@ use Rattle.star_value.specs.declared.value.Value.{Value, out-Value}
 use Rattle.star_value.specs.declared.value.Value.TheOpen.{Value-F}
 use Rattle.star_value.specs.declared.value.Value.TheVariants as value
 use Rattle.star_value.specs.Ranges.{range_count}
-use Rattle.star_meaning.specs.State.{State, list, dict, dict_put}
+use Rattle.star_meaning.specs.State.{list, dict, dict_put}
 use Rattle.star_meaning.specs.Steps.{Action, pure, fail, given_or, charge, read, ◌>>=◌, ◌>>◌}
 use Rattle.star_meaning.specs.Values.{is_empty, integer, in_range, is_zero, is_true, key_values, items_of, text_in, int_in, bool_in, charge_items, charge_weight, check_depth, new_tuple, new_list, new_dict, type_name}
 use Rattle.star_meaning.specs.Comparing.{key_in}

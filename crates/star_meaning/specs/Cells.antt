@@ -1,15 +1,12 @@
 -- The meaning of cells and versions.
-use Rattle.std.specs.Prelude.{ℕ, zero, suc, ◌+◌, ◌-◌, Bool, true, false, if◌then◌else◌, List, [], ◌∷◌, ◌++◌, map, length, Option, Some, None, option_map, option_and_then, is_some, slice_get, codes, sum}
+use Rattle.std.specs.Prelude.{ℕ, ◌+◌, ◌-◌, if◌then◌else◌, List, [], ◌∷◌, ◌++◌, map, Option, is_some, slice_get, codes, sum}
 use Rattle.std.specs.Fmt.{decimal}
-use Rattle.std.specs.List.{flat_map}
 use Rattle.chex_base.specs.declared.input.Input.{Input}
-use Rattle.star_syntax.specs.declared.cell.Cell.{Cell}
-use Rattle.star_syntax.specs.declared.cell.Program.{Program}
 use Rattle.star_syntax.specs.declared.statement.Definition.{Definition}
 use Rattle.star_syntax.specs.declared.statement.Module.{Module}
 use Rattle.star_syntax.specs.declared.statement.Statement.{Statement}
 use Rattle.star_syntax.specs.CellParts.{CellParts}
-use Rattle.star_syntax.specs.Cells.{def_of, functions_of, numbered}
+use Rattle.star_syntax.specs.Cells.{def_of, functions_of}
 use Rattle.star_value.specs.declared.failure.Failure.{Failure}
 use Rattle.star_value.specs.declared.failure.Failure.TheVariants as failure
 use Rattle.star_meaning.specs.declared.flow.Flow.{Flow}
@@ -17,7 +14,7 @@ use Rattle.star_meaning.specs.declared.flow.Flow.TheVariants as flow
 use Rattle.star_meaning.specs.declared.ran.End.{End}
 use Rattle.star_meaning.specs.declared.ran.End.TheVariants as end
 use Rattle.star_meaning.specs.declared.ran.Ran.{Ran}
-use Rattle.star_meaning.specs.State.{Object, AList, ADict, AFunction, State, empty}
+use Rattle.star_meaning.specs.State.{State, empty}
 use Rattle.star_meaning.specs.Steps.{Outcome, Went, Failed, pure, ◌>>=◌}
 use Rattle.star_meaning.specs.Values.{is_empty}
 use Rattle.star_meaning.specs.World.{World, Fault, Course, start}

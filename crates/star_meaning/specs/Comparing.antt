@@ -14,12 +14,10 @@ use Rattle.star_value.specs.declared.key.Key.{Key}
 use Rattle.star_value.specs.declared.range.Range.{Range}
 use Rattle.star_value.specs.declared.value.Value.{Value, out-Value}
 use Rattle.star_value.specs.declared.value.Value.TheOpen.{Value-F}
-use Rattle.star_value.specs.declared.value.Value.TheVariants as value
 use Rattle.star_value.specs.Keys as keys
 use Rattle.star_value.specs.Ranges.{range_count}
 use Rattle.star_value.specs.Texts.{find}
-use Rattle.star_value.specs.Weight.{weight}
-use Rattle.star_meaning.specs.State.{State, list, dict, dict_get}
+use Rattle.star_meaning.specs.State.{list, dict, dict_get}
 use Rattle.star_meaning.specs.Steps.{Action, pure, fail, given_or, charge, read, ◌>>=◌, ◌>>◌}
 use Rattle.star_meaning.specs.Values.{builtin_name, charge_weight, range_gives}
 

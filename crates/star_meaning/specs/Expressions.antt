@@ -1,5 +1,5 @@
 -- The meaning of expressions: one clause for each form, with the meaning of each part in its place.
-use Rattle.std.specs.Prelude.{ℕ, zero, suc, ◌+◌, Bool, true, false, not, if◌then◌else◌, List, [], ◌∷◌, ◌++◌, map, length, Option, Some, None, option_map, is_some, codes, bytes_eq}
+use Rattle.std.specs.Prelude.{ℕ, zero, suc, Bool, true, false, not, if◌then◌else◌, List, [], ◌∷◌, ◌++◌, map, length, Option, Some, None, is_some}
 use Rattle.std.specs.List.{flat_map}
 use Rattle.chex_base.specs.declared.input.Input.{Input}
 use Rattle.chex_base.specs.declared.input.Input.TheVariants as input
@@ -11,26 +11,23 @@ use Rattle.star_syntax.specs.declared.expression.Expr.TheOpen.{Expr-F}
 use Rattle.star_syntax.specs.declared.expression.Link.{Link}
 use Rattle.star_syntax.specs.declared.expression.Suffix.{Suffix}
 use Rattle.star_syntax.specs.declared.expression.Suffix.TheVariants as suffix
-use Rattle.star_syntax.specs.declared.expression.Arguments.{Arguments}
 use Rattle.star_syntax.specs.declared.expression.Clause.{Clause}
 use Rattle.star_syntax.specs.declared.expression.Clause.TheVariants as clause
 use Rattle.star_syntax.specs.declared.expression.Named.{Named}
 use Rattle.star_syntax.specs.declared.expression.Pair.{Pair}
 use Rattle.star_syntax.specs.declared.expression.ChainOp.{ChainOp}
 use Rattle.star_syntax.specs.declared.expression.ChainOp.TheVariants as chain
-use Rattle.star_syntax.specs.declared.operator.BinaryOp.{BinaryOp}
 use Rattle.star_syntax.specs.declared.operator.CompareOp.{CompareOp}
 use Rattle.star_syntax.specs.declared.operator.UnaryOp.{UnaryOp}
 use Rattle.star_syntax.specs.declared.statement.Definition.{Definition}
 use Rattle.star_syntax.specs.declared.statement.Statement.{Statement}
 use Rattle.star_syntax.specs.Placement.{is_input}
-use Rattle.star_value.specs.declared.builtin.Builtin.{Builtin}
 use Rattle.star_value.specs.declared.failure.Failure.TheVariants as failure
 use Rattle.star_value.specs.declared.key.Key.{Key}
 use Rattle.star_value.specs.declared.value.Value.{Value, out-Value}
 use Rattle.star_value.specs.declared.value.Value.TheOpen.{Value-F}
 use Rattle.star_value.specs.declared.value.Value.TheVariants as value
-use Rattle.star_meaning.specs.State.{State, dict_get, dict_put}
+use Rattle.star_meaning.specs.State.{dict_get, dict_put}
 use Rattle.star_meaning.specs.Steps.{Action, pure, fail, given_or, charge, ◌>>=◌, ◌>>◌}
 use Rattle.star_meaning.specs.Values.{is_true, items_of, charge_items, charge_weight, new_tuple, new_list, new_dict}
 use Rattle.star_meaning.specs.Comparing.{compare, key_in}
@@ -39,7 +36,7 @@ use Rattle.star_meaning.specs.Operators as operators
 use Rattle.star_meaning.specs.Operators.{Bounds, binary, unary, index, slice, unpacked}
 use Rattle.star_meaning.specs.Builtins.{ByName, call_builtin}
 use Rattle.star_meaning.specs.Methods.{call_method}
-use Rattle.star_meaning.specs.World.{World, Work, acting, seen, operation, operate, write, look_up, bind, unbound, distinct, in_block, locking, has, lock_of, turns}
+use Rattle.star_meaning.specs.World.{Work, acting, seen, operation, operate, write, look_up, bind, unbound, distinct, in_block, locking, has, lock_of, turns}
 
 -- What does not change while a cell runs: the functions of the cells, the cell, and the inputs.
 pub record Setting (C : Type 0) : Type 0 where

@@ -1,6 +1,6 @@
 -- The methods of lists, dicts and texts: one definition for each row of the table in docs/LANGUAGE.md.
 -- The first charge of 1 and the charge of the result's weight are those of `operation`.
-use Rattle.std.specs.Prelude.{ℕ, zero, suc, ◌+◌, Bool, true, false, if◌then◌else◌, List, [], ◌∷◌, ◌++◌, map, length, Option, Some, None, option_map, ℤ, pos, negsuc, ◌+ℤ◌, int_lt, codes}
+use Rattle.std.specs.Prelude.{ℕ, ◌+◌, Bool, true, false, if◌then◌else◌, List, [], ◌∷◌, ◌++◌, map, length, Option, Some, None, option_map, ℤ, pos, negsuc, ◌+ℤ◌, int_lt, codes}
 use Rattle.std.specs.List.{insert, remove, flat_map}
 use Rattle.star_value.specs.declared.failure.Failure.TheVariants as failure
 use Rattle.star_value.specs.declared.key.Key.{Key}
@@ -9,12 +9,12 @@ use Rattle.star_value.specs.declared.value.Value.TheOpen.{Value-F}
 use Rattle.star_value.specs.declared.value.Value.TheVariants as value
 use Rattle.star_value.specs.Keys as keys
 use Rattle.star_value.specs.Texts as texts
-use Rattle.star_meaning.specs.State.{State, list, dict, dict_get, dict_put, dict_without, with_list, with_dict}
+use Rattle.star_meaning.specs.State.{list, dict, dict_get, dict_put, dict_without, with_list, with_dict}
 use Rattle.star_meaning.specs.Steps.{Action, pure, fail, given_or, charge, read, change, ◌>>=◌, ◌>>◌}
-use Rattle.star_meaning.specs.Values.{is_empty, times, place_of, clamped, key_values, items_of, text_in, charge_items, charge_weight, new_list, named_in}
+use Rattle.star_meaning.specs.Values.{is_empty, times, place_of, clamped, key_values, items_of, charge_items, charge_weight, named_in}
 use Rattle.star_meaning.specs.Comparing.{key_in, search_in}
-use Rattle.star_meaning.specs.Operators.{charged_list, item_at, check_unlocked, put_key, extend}
-use Rattle.star_meaning.specs.Builtins.{ByName, check, unnamed, with_one, with_optional, with_one_or_two, as_int, as_int_or, as_text, list_of_tuples}
+use Rattle.star_meaning.specs.Operators.{charged_list, item_at, check_unlocked, extend}
+use Rattle.star_meaning.specs.Builtins.{ByName, unnamed, with_one, with_optional, with_one_or_two, as_int, as_int_or, as_text, list_of_tuples}
 
 -- no argument, or two
 abbrev pub with_none : {C A : Type 0} → Action C A → List Value → Action C A

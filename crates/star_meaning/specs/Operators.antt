@@ -1,6 +1,6 @@
 -- The operators, index and slice, and what stores in a place: one definition for each row of the table in docs/LANGUAGE.md.
 -- The first charge of 1 and the charge of the result's weight are those of `operation`.
-use Rattle.std.specs.Prelude.{ℕ, zero, suc, ◌+◌, ◌-◌, ◌*◌, ◌==◌, Bool, true, false, not, ◌&&◌, if◌then◌else◌, List, [], ◌∷◌, ◌++◌, map, length, Option, Some, None, is_some, option_map, option_and_then, ℤ, pos, negsuc, ◌+ℤ◌, ◌-ℤ◌, ◌*ℤ◌, neg_ℤ, int_lt, slice_get, slice_set}
+use Rattle.std.specs.Prelude.{ℕ, ◌+◌, ◌==◌, Bool, true, false, not, ◌&&◌, if◌then◌else◌, List, [], ◌∷◌, ◌++◌, length, Option, Some, None, is_some, option_map, option_and_then, ℤ, pos, negsuc, ◌+ℤ◌, ◌-ℤ◌, ◌*ℤ◌, neg_ℤ, int_lt, slice_get, slice_set}
 use Rattle.std.specs.Fmt.{signed_decimal}
 use Rattle.std.specs.Int.{int_bit_and, int_bit_or, int_bit_xor, int_bit_not, w128}
 use Rattle.std.specs.List.{filter_map, list_any, repeat}
@@ -18,9 +18,9 @@ use Rattle.star_value.specs.declared.value.Value.TheOpen.{Value-F}
 use Rattle.star_value.specs.declared.value.Value.TheVariants as value
 use Rattle.star_value.specs.Format.{parts_of}
 use Rattle.star_value.specs.Ranges.{range_count}
-use Rattle.star_meaning.specs.State.{State, list, dict, dict_get, dict_put, with_list, with_dict}
-use Rattle.star_meaning.specs.Steps.{Action, pure, fail, given_or, charge, read, change, ◌>>=◌, ◌>>◌}
-use Rattle.star_meaning.specs.Values.{integer, in_range, floor_of, rest_of, is_zero, times, place_of, clamped, integers_of, range_item, items_of, int_in, charge_items, charge_weight, new_list}
+use Rattle.star_meaning.specs.State.{list, dict, dict_get, dict_put, with_list, with_dict}
+use Rattle.star_meaning.specs.Steps.{Action, pure, fail, given_or, read, change, ◌>>=◌, ◌>>◌}
+use Rattle.star_meaning.specs.Values.{integer, floor_of, rest_of, is_zero, times, place_of, clamped, integers_of, range_item, items_of, int_in, charge_items, charge_weight, new_list}
 use Rattle.star_meaning.specs.Comparing.{key_in}
 use Rattle.star_meaning.specs.Showing.{Naming, quoted, shown, ◌<+>◌}
 

@@ -1,5 +1,5 @@
 -- How values are written. Each code point is charged as it is made.
-use Rattle.std.specs.Prelude.{ℕ, zero, suc, ◌==◌, Bool, true, false, if◌then◌else◌, List, [], ◌∷◌, ◌++◌, length, map, Option, Some, None, ℤ, pos, codes}
+use Rattle.std.specs.Prelude.{ℕ, zero, suc, ◌==◌, true, false, if◌then◌else◌, List, [], ◌∷◌, ◌++◌, length, map, Option, Some, None, pos, codes}
 use Rattle.std.specs.Fmt.{signed_decimal}
 use Rattle.std.specs.List.{flat_map}
 use Rattle.std.specs.Ordering.{int_eq}
@@ -9,7 +9,7 @@ use Rattle.star_value.specs.declared.range.Range.{Range}
 use Rattle.star_value.specs.declared.value.Value.{Value, out-Value}
 use Rattle.star_value.specs.declared.value.Value.TheOpen.{Value-F}
 use Rattle.star_value.specs.Keys as keys
-use Rattle.star_meaning.specs.State.{State, list, dict, function}
+use Rattle.star_meaning.specs.State.{list, dict, function}
 use Rattle.star_meaning.specs.Steps.{Action, pure, fail, charge, read, ◌>>=◌, ◌>>◌}
 use Rattle.star_meaning.specs.Values.{builtin_name, text_in}
 

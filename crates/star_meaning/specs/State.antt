@@ -1,6 +1,6 @@
 -- The state that cells share: global names and numbered objects, with the few reads and changes by which a cell meets it.
 -- A state is over what names a cell: in a machine's state a function has its cell's number, in a shown state the cell itself.
-use Rattle.std.specs.Prelude.{ℕ, Bool, true, false, List, [], ◌∷◌, ◌++◌, length, Option, Some, None, if◌then◌else◌, slice_get, slice_set}
+use Rattle.std.specs.Prelude.{ℕ, List, [], ◌∷◌, ◌++◌, length, Option, Some, None, if◌then◌else◌, slice_get, slice_set}
 use Rattle.std.specs.BTreeMap.{insert_entry, is_at}
 use Rattle.std.specs.Map.{lookup}
 use Rattle.chex_base.specs.TextOrder.{text_cmp}

@@ -1,5 +1,5 @@
 -- The meaning of statements, and of calls of functions.
-use Rattle.std.specs.Prelude.{ℕ, zero, suc, ◌+◌, Bool, true, false, not, ◌&&◌, if◌then◌else◌, List, [], ◌∷◌, ◌++◌, map, length, Option, Some, None, option_map, is_some, codes, bytes_eq, sum}
+use Rattle.std.specs.Prelude.{ℕ, zero, suc, Bool, true, false, not, ◌&&◌, if◌then◌else◌, List, [], ◌∷◌, ◌++◌, map, Option, Some, None, option_map, bytes_eq, sum}
 use Rattle.std.specs.List.{filter, filter_map, flat_map, list_all}
 use Rattle.star_syntax.specs.declared.expression.Expr.{Expr}
 use Rattle.star_syntax.specs.declared.expression.Named.{Named}
@@ -22,8 +22,8 @@ use Rattle.star_value.specs.declared.value.Value.TheVariants as value
 use Rattle.star_value.specs.Weight.{weight}
 use Rattle.star_meaning.specs.declared.flow.Flow.{Flow}
 use Rattle.star_meaning.specs.declared.flow.Flow.TheVariants as flow
-use Rattle.star_meaning.specs.State.{State, function}
-use Rattle.star_meaning.specs.Steps.{Outcome, Went, Failed, Steps, Action, pure, fail, given_or, charge, ◌>>=◌, ◌>>◌}
+use Rattle.star_meaning.specs.State.{function}
+use Rattle.star_meaning.specs.Steps.{Outcome, Went, Failed, pure, fail, charge, ◌>>=◌, ◌>>◌}
 use Rattle.star_meaning.specs.Values.{is_empty, items_of, new_function}
 use Rattle.star_meaning.specs.Showing.{made, quoted, ◌<+>◌}
 use Rattle.star_meaning.specs.Operators.{augmented}

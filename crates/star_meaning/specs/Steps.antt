@@ -1,10 +1,8 @@
 -- Steps: what takes a state with steps left to another one, and gives a result or fails.
-use Rattle.std.specs.Prelude.{◌≡◌, ℕ, List, [], ◌∷◌, ◌++◌, Option, Some, None, Result, Ok, Err}
+use Rattle.std.specs.Prelude.{◌≡◌, ℕ, Option, Some, None, Result, Ok, Err}
 use Rattle.star_value.specs.declared.failure.Failure.{Failure}
-use Rattle.star_value.specs.declared.failure.Failure.TheVariants as failure
 use Rattle.star_value.specs.declared.stop.Stop.{Stop}
 use Rattle.star_value.specs.declared.stop.Stop.TheVariants as stop
-use Rattle.star_value.specs.declared.value.Value.{Value}
 use Rattle.star_value.specs.Charge.{charged}
 use Rattle.star_meaning.specs.State.{State}
 

@@ -1,5 +1,5 @@
 -- Trees and outcomes written short, for the worked rows.
-use Rattle.std.specs.Prelude.{◌≡◌, ℕ, Bool, true, false, List, [], ◌∷◌, Option, Some, None, ℤ, pos, codes}
+use Rattle.std.specs.Prelude.{◌≡◌, ℕ, false, List, [], ◌∷◌, pos}
 use Rattle.star_syntax.specs.declared.expression.Expr.{Expr}
 use Rattle.star_syntax.specs.declared.expression.Expr.TheVariants as e
 use Rattle.star_syntax.specs.declared.expression.Arguments.{Arguments}
@@ -19,7 +19,6 @@ use Rattle.star_syntax.specs.declared.statement.SmallKind.TheVariants as small
 use Rattle.star_syntax.specs.declared.statement.Statement.{Statement}
 use Rattle.star_syntax.specs.declared.statement.Statement.TheVariants as s
 use Rattle.star_syntax.specs.CellParts.{CellParts}
-use Rattle.chex_base.specs.declared.input.Input.{Input}
 use Rattle.star_value.specs.declared.failure.Failure.{Failure}
 use Rattle.star_meaning.specs.declared.ran.End.TheVariants as end
 use Rattle.star_meaning.specs.declared.ran.Ran.{Ran}

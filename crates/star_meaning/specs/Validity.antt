@@ -1,17 +1,15 @@
 -- Machine states, which of them are valid over a program, and the shown states that they stand for.
-use Rattle.std.specs.Prelude.{◌≡◌, ◌≤◌, ℕ, zero, suc, ◌+◌, ◌*◌, ◌==◌, nat_le, Bool, true, false, not, ◌&&◌, if◌then◌else◌, List, [], ◌∷◌, ◌++◌, map, length, Option, Some, None, option_map, option_and_then, is_some, IsTrue, slice_get, ℤ, pos}
+use Rattle.std.specs.Prelude.{◌≤◌, ℕ, ◌*◌, ◌==◌, nat_le, Bool, true, false, not, ◌&&◌, List, [], ◌∷◌, ◌++◌, map, length, Option, Some, None, option_and_then, is_some, IsTrue, slice_get}
 use Rattle.std.specs.List.{list_all, list_any}
 use Rattle.std.specs.List.Sorted.{IsStrictlySortedBy}
 use Rattle.std.specs.Map.{keys_of}
 use Rattle.chex_base.specs.declared.input.Input.{Input}
 use Rattle.chex_base.specs.TextOrder.{text_cmp}
-use Rattle.star_syntax.specs.declared.cell.Cell.{Cell}
 use Rattle.star_syntax.specs.declared.cell.Program.{Program}
 use Rattle.star_syntax.specs.declared.statement.Definition.{Definition}
-use Rattle.star_syntax.specs.declared.statement.Module.{Module}
 use Rattle.star_syntax.specs.declared.statement.Statement.{Statement}
 use Rattle.star_syntax.specs.CellParts.{CellParts}
-use Rattle.star_syntax.specs.Cells.{functions_of, numbered}
+use Rattle.star_syntax.specs.Cells.{numbered}
 use Rattle.star_value.specs.declared.key.Key.{Key}
 use Rattle.star_value.specs.declared.value.Value.{Value, fold-Value}
 use Rattle.star_value.specs.declared.value.Value.TheOpen.{Value-F}

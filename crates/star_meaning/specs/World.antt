@@ -1,5 +1,5 @@
 -- What a running cell meets beside the state: its frame and what it has written.
-use Rattle.std.specs.Prelude.{ℕ, ◌-◌, ◌==◌, Bool, true, false, if◌then◌else◌, List, [], ◌∷◌, ◌++◌, map, Option, Some, None, option_map, is_some, bytes_eq}
+use Rattle.std.specs.Prelude.{ℕ, ◌-◌, ◌==◌, Bool, if◌then◌else◌, List, [], ◌∷◌, ◌++◌, map, Option, Some, None, option_map, is_some, bytes_eq}
 use Rattle.std.specs.List.{list_any}
 use Rattle.star_value.specs.declared.failure.Failure.{Failure}
 use Rattle.star_value.specs.declared.failure.Failure.TheVariants as failure
@@ -8,8 +8,8 @@ use Rattle.star_value.specs.declared.value.Value.TheOpen.{Value-F}
 use Rattle.star_value.specs.declared.value.Value.TheVariants as value
 use Rattle.star_value.specs.Weight.{weight}
 use Rattle.star_meaning.specs.State.{State, global, set_global}
-use Rattle.star_meaning.specs.Steps.{Outcome, Went, Failed, Steps, Store, Action, pure, fail, given_or, charge, ◌>>=◌, ◌>>◌}
-use Rattle.star_meaning.specs.Values.{items_of, builtin_of, named_in}
+use Rattle.star_meaning.specs.Steps.{Outcome, Went, Failed, Steps, Store, Action, pure, given_or, charge, ◌>>=◌, ◌>>◌}
+use Rattle.star_meaning.specs.Values.{builtin_of, named_in}
 
 -- local names, each with its value where it is bound
 abbrev pub Block : Type 0
