@@ -1,0 +1,14 @@
+-- The tables of small cells hold by evaluation.
+pub mod Arithmetic
+pub mod Comparisons
+pub mod Parts
+pub mod Choices
+pub mod Statements
+pub mod BuiltinFunctions
+pub mod ListMethods
+pub mod DictMethods
+pub mod TextMethods
+pub mod Failures
+pub mod Cells
+pub mod Turns
+pub mod LongCells

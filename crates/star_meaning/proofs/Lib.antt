@@ -1,0 +1,5 @@
+pub mod Equations
+pub mod Evaluated
+pub mod OneCell
+pub mod Opened
+pub mod Sequences

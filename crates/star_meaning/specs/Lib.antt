@@ -1,0 +1,16 @@
+pub mod State
+pub mod Steps
+pub mod Values
+pub mod Comparing
+pub mod Showing
+pub mod Operators
+pub mod Builtins
+pub mod Methods
+pub mod World
+pub mod Expressions
+pub mod Statements
+pub mod Cells
+pub mod Trees
+pub mod Rows
+pub mod Validity
+pub mod Agreement
