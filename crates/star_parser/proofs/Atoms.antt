@@ -170,9 +170,9 @@ ByFirst (t.Mark m.OpenSquare) x c = Opened m.OpenSquare Square x c
 ByFirst (t.Mark m.OpenCurly) x c = Opened m.OpenCurly Curly x c
 ByFirst _ x c = ⊥
 
-single_there : (k : Token) (tree : Expr) (d : Expr-F Expr) → roll-Expr d ≡ tree → layer_rank d ≡ 12 → Fits d → Each IsLevelled d → parts_spelling d ≡ k ∷ []
-    → (x : Expr) (c : Input) → Single k tree x c → IsExpr 12 x c
-single_there k tree d rolls top fits each spells x c (u, c1, c2, (s, is, one), (x_is, none), split) =
+single_there : (k : Token) (leaf : Expr) (d : Expr-F Expr) → roll-Expr d ≡ leaf → layer_rank d ≡ 12 → Fits d → Each IsLevelled d → parts_spelling d ≡ k ∷ []
+    → (x : Expr) (c : Input) → Single k leaf x c → IsExpr 12 x c
+single_there k leaf d rolls top fits each spells x c (u, c1, c2, (s, is, one), (x_is, none), split) =
     made_is 12 d x c (rolls ∙ sym x_is) (omega arith) fits each
     (ap kinds (split ∙ ap (λ v. v ++ c2) one ∙ ap (λ v. s ∷ v) none) ∙ ap (λ v. v ∷ []) is ∙ sym spells)
 
@@ -194,8 +194,8 @@ rank_top _ = omega arith
 abbrev WithFirst : Expr → Input → Type 0
 WithFirst x c = (s : Spanned) × (d : Input) × (c ≡ s ∷ d) × ByFirst s.token x c
 
-single_first : (k : Token) (tree x : Expr) (c : Input) → x ≡ tree → kinds c ≡ k ∷ [] → ((x : Expr) (c : Input) → Single k tree x c → ByFirst k x c) → WithFirst x c
-single_first k tree x c x_is spelt by_token =
+single_first : (k : Token) (leaf x : Expr) (c : Input) → x ≡ leaf → kinds c ≡ k ∷ [] → ((x : Expr) (c : Input) → Single k leaf x c → ByFirst k x c) → WithFirst x c
+single_first k leaf x c x_is spelt by_token =
     let (s, d, split, is, none) = kinds_cons c k [] spelt in
     (s, d, split, subst (λ v. ByFirst v x c) (sym is) (by_token x c (tt, s ∷ [], d, (s, is, refl), (x_is, kinds_none d none), split)))
 

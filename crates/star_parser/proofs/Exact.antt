@@ -1,7 +1,5 @@
 -- What it means that a reader is exact, and that the steps that readers are made of keep it.
-use Rattle.std.proofs.Common.{◌≡◌, ◌≢◌, ◌∙◌, ◌⊎◌, inl, inr, ℕ, Bool, true, false, List, [], ◌∷◌, ◌++◌, Option, Some, None, Result, Ok, Err, refl, sym, ap, subst, append_assoc, arith, rules, length}
-use Rattle.star_syntax.specs.declared.token.Token.{Token}
-use Rattle.star_syntax.specs.declared.token.Spanned.{Spanned}
+use Rattle.std.proofs.Common.{◌≡◌, ◌≢◌, ◌∙◌, ◌⊎◌, inl, inr, List, [], ◌∷◌, ◌++◌, Ok, Err, refl, sym, ap, subst, append_assoc}
 use Rattle.star_parser.specs.Reading.{Input, Outcome, Reader, and_then, next, rest}
 
 -- A rule says which trees a list of tokens spells. Ends says what may follow.

@@ -1,5 +1,5 @@
 -- The first token of an expression.
-use Rattle.std.proofs.Common.{◌≡◌, ◌≢◌, ◌∙◌, ◌⊎◌, inl, inr, ℕ, zero, suc, ◌+◌, ◌≤◌, ◌<◌, Bool, true, false, List, [], ◌∷◌, ◌++◌, map, Option, Some, None, replicate, refl, sym, ap, subst, arith, rules, append_assoc}
+use Rattle.std.proofs.Common.{◌≡◌, ◌∙◌, ◌⊎◌, inl, inr, ℕ, zero, suc, ◌+◌, ◌≤◌, ◌<◌, [], ◌∷◌, ◌++◌, refl, sym, ap, subst, arith}
 use Rattle.std.proofs.lemmas.List.{append-nil}
 use native.Mathlib.Decide.{dec_lt}
 use Rattle.star_syntax.specs.declared.token.Token.{Token}
@@ -7,16 +7,15 @@ use Rattle.star_syntax.specs.declared.token.Token.TheVariants as t
 use Rattle.star_syntax.specs.declared.token.Mark.TheVariants as m
 use Rattle.star_syntax.specs.declared.token.Keyword.TheVariants as w
 use Rattle.star_syntax.specs.declared.token.Spanned.{Spanned}
-use Rattle.star_syntax.specs.declared.operator.UnaryOp.{UnaryOp}
 use Rattle.star_syntax.specs.declared.operator.UnaryOp.TheVariants as sign
 use Rattle.star_syntax.specs.declared.expression.Expr.{Expr, out-Expr, roll-Expr, out-roll-Expr, roll-out-Expr}
 use Rattle.star_syntax.specs.declared.expression.Expr.TheOpen.{Expr-F}
-use Rattle.star_syntax.specs.Spelling.{Tokens, expr_spelling, sign_token}
+use Rattle.star_syntax.specs.Spelling.{Tokens, expr_spelling}
 use Rattle.star_syntax.specs.SpellingOfParts.{parts_spelling}
 use Rattle.star_syntax.specs.Levels.{IsLevelled, Fits, rank, layer_rank}
 use Rattle.star_syntax.proofs.Levelled.{levelled_parts, levelled_made, rank_made, rank_parts, Each, induct}
 use Rattle.star_syntax.proofs.SpellingLemmas.{spells_parts}
-use Rattle.star_parser.specs.Reading.{Input, kinds, next}
+use Rattle.star_parser.specs.Reading.{Input, kinds}
 use Rattle.star_parser.specs.Starts.{starts}
 use Rattle.star_parser.proofs.Exact.{Then, Just}
 use Rattle.star_parser.proofs.Rules.{IsExpr, kinds_cons}

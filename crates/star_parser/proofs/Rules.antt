@@ -1,19 +1,17 @@
 -- The rules of expressions, and words on lists of tokens.
-use Rattle.std.proofs.Common.{◌≡◌, ◌≢◌, ◌∙◌, ℕ, ◌+◌, ◌≤◌, ◌<◌, Bool, true, false, List, [], ◌∷◌, ◌++◌, map, Option, Some, None, refl, sym, ap, subst, arith, rules, append_assoc, length, length-append}
+use Rattle.std.proofs.Common.{◌≡◌, ◌≢◌, ◌∙◌, ℕ, ◌≤◌, ◌<◌, [], ◌∷◌, ◌++◌, Some, refl, sym, ap, subst, arith, length, length-append}
 use Rattle.std.proofs.lemmas.List.{map-append}
 use Rattle.star_syntax.specs.declared.token.Token.{Token}
 use Rattle.star_syntax.specs.declared.token.Token.TheVariants as t
 use Rattle.star_syntax.specs.declared.token.Spanned.{Spanned}
 use Rattle.star_syntax.specs.declared.expression.Expr.{Expr}
 use Rattle.star_syntax.specs.declared.expression.Expr.TheVariants as e
-use Rattle.star_syntax.specs.declared.expression.Expr.{out-roll-Expr}
 use Rattle.star_syntax.specs.Spelling.{Tokens, expr_spelling}
 use Rattle.star_syntax.specs.Levels.{IsLevelled, rank}
 use Rattle.star_syntax.proofs.Levelled.{levelled_made, rank_made}
 use Rattle.star_syntax.specs.declared.expression.Expr.TheOpen.{Expr-F}
 use Rattle.star_syntax.proofs.SpellingLemmas.{spells-Name}
 use Rattle.star_parser.specs.Reading.{Input, kinds, next}
-use Rattle.star_parser.specs.Ends.{reach, Ends}
 
 -- the tokens spell the expression, which is well-levelled and of this level
 pub record IsExpr (r : ℕ) (x : Expr) (c : Input) : Type 0 where

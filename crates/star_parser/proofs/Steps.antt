@@ -1,7 +1,7 @@
 -- The readers of single tokens are exact.
-use Rattle.std.proofs.Common.{◌≡◌, ◌≢◌, ◌∙◌, ◌⊎◌, inl, inr, ℕ, Bool, true, false, cond, List, [], ◌∷◌, ◌++◌, Option, Some, None, Result, Ok, Err, refl, sym, ap, subst, arith, rules, length, ◌<◌}
+use Rattle.std.proofs.Common.{◌≡◌, ◌≢◌, ◌∙◌, Bool, true, false, [], ◌∷◌, ◌++◌, Option, Some, None, refl, sym, ap, subst, length, ◌<◌}
 use Rattle.std.specs.Prelude.{if◌then◌else◌}
-use denote.Enum.Bare.{sameb, same_true, true_same}
+use denote.Enum.Bare.{same_true, true_same}
 use Rattle.star_syntax.specs.declared.token.Token.{Token}
 use Rattle.star_syntax.specs.declared.token.Token.TheVariants as t
 use Rattle.star_syntax.specs.declared.token.Mark.{Mark}
@@ -9,9 +9,9 @@ use Rattle.star_syntax.specs.declared.token.Keyword.{Keyword}
 use Rattle.star_syntax.specs.declared.token.Spanned.{Spanned}
 use Rattle.star_syntax.specs.contracts.token.Mark.{the_type as mark_type}
 use Rattle.star_syntax.specs.contracts.token.Keyword.{the_type as word_type}
-use Rattle.star_parser.specs.Reading.{Input, Outcome, Reader, and_then, ◌>>=◌, ◌>>◌, pure, refuse, next, rest, peek, skip}
+use Rattle.star_parser.specs.Reading.{Input, Outcome, Reader, and_then, ◌>>◌, pure, refuse, next, skip}
 use Rattle.star_parser.specs.Tables.{is_mark, is_word, eat, expect, eat_word, expect_word}
-use Rattle.star_parser.proofs.Exact.{Exact, Reads, Refuses, Then, Just, exact_refuse, exact_then, exact_pure}
+use Rattle.star_parser.proofs.Exact.{Exact, Then, Just, exact_refuse, exact_then, exact_pure}
 use Rattle.star_parser.proofs.Rules.{length_less}
 
 pub mark_is : (m : Mark) (o : Option Token) → is_mark m o ≡ true → o ≡ Some (t.Mark m)

@@ -9,7 +9,7 @@ use Rattle.star_syntax.specs.declared.expression.Pair.{Pair}
 use Rattle.star_syntax.specs.declared.expression.Clause.{Clause}
 use Rattle.star_syntax.specs.declared.expression.Suffix.{Suffix}
 use Rattle.star_syntax.specs.declared.expression.Suffix.TheVariants.{Index, Slice, Call, Method}
-use Rattle.star_syntax.specs.declared.expression.Expr.{Expr, out-Expr, roll-Expr, map-Expr, fold-roll-Expr, out-roll-Expr}
+use Rattle.star_syntax.specs.declared.expression.Expr.{Expr, roll-Expr, map-Expr, fold-roll-Expr, out-roll-Expr}
 use Rattle.star_syntax.specs.declared.expression.Expr.TheOpen.{Expr-F}
 use Rattle.star_syntax.specs.declared.expression.Expr.TheVariants as e
 use Rattle.star_syntax.specs.Levels.{is_target, is_place, layer_is_target, layer_is_place, ends_in_index, both}

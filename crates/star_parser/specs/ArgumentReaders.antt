@@ -1,5 +1,5 @@
 -- One argument of a call, as a reader of its own.
-use Rattle.std.specs.Prelude.{ℕ, Bool, true, false, if◌then◌else◌, List, Option, Some, None}
+use Rattle.std.specs.Prelude.{ℕ, if◌then◌else◌, List, Option, Some, None}
 use Rattle.star_syntax.specs.declared.token.Mark.TheVariants as m
 use Rattle.star_syntax.specs.declared.expression.Expr.{Expr}
 use Rattle.star_parser.specs.declared.level.Level.{Level}

@@ -1,5 +1,5 @@
 -- The end of a slice, as a reader of its own.
-use Rattle.std.specs.Prelude.{Bool, true, false, if◌then◌else◌, Option, Some, None}
+use Rattle.std.specs.Prelude.{if◌then◌else◌, Option, Some, None}
 use Rattle.star_syntax.specs.declared.token.Mark.TheVariants as m
 use Rattle.star_syntax.specs.declared.expression.Expr.{Expr}
 use Rattle.star_parser.specs.declared.level.Level.{Level}

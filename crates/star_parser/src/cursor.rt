@@ -9,10 +9,10 @@ ghost use Rattle.star_syntax.specs.Levels as levels;
 
 use crate::fault::Fault;
 use chex_base::Text;
-use std::alloc::Global;
 use star_syntax::{
     BinaryOp, ChainLevel, ChainOp, CompareOp, Keyword, Mark, Spanned, Token, UnaryOp,
 };
+use std::alloc::Global;
 
 /// The tokens that are still to read. A function that refuses leaves it at the refused token.
 #[derive(Drop)]

@@ -8,13 +8,16 @@ pub mod compound;
 pub mod cursor;
 pub mod fault;
 pub mod grammar;
+pub mod header;
 pub mod layout;
 pub mod level;
 pub mod parser;
-pub mod header;
 pub mod small;
 pub mod target;
 pub mod terms;
 
 pub use fault::ParseFault;
 pub use parser::{one_tree, parse};
+
+#[cfg(test)]
+mod tests;

@@ -82,6 +82,7 @@ impl Terms {
         }
     }
 
+    /// A small statement but for its line.
     #[tactic(auto, unfolding(crate::specs::StatementReaders::small_kind))]
     fn small_kind(&self, tokens: &mut Cursor<'_>) -> Result<SmallKind, Fault>
         ensures { Reads (spec.small_kind (readers.expr self.now.depth) tokens.old.rest.now) result tokens.new.rest.now }

@@ -105,21 +105,13 @@ impl<F: Fn(Global, &mut Cursor<'_>, usize, Level) -> Result<Expr, Fault>> Gramma
         ensures { Reads (spec.arguments (spec.expr self.now.depth) tokens.old.rest.now) result tokens.new.rest.now }
     {
         if tokens.eat(Mark::CloseRound) {
-            return Ok(arguments(
-                Items::new(self.alloc),
-                Items::new(self.alloc),
-                false,
-            ));
+            return Ok(arguments(Items::new(self.alloc), Items::new(self.alloc), false));
         }
         self.arguments_from(tokens)
     }
 }
 
-fn arguments(
-    positional: Items<Expr>,
-    named: Items<Named<Expr>>,
-    comma: bool,
-) -> Arguments<Expr>
+fn arguments(positional: Items<Expr>, named: Items<Named<Expr>>, comma: bool) -> Arguments<Expr>
     ensures { result ≡ spec.arguments_of positional named comma }
 {
     Arguments {

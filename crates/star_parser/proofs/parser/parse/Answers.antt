@@ -1,4 +1,4 @@
-use Rattle.std.proofs.Common.{◌≡◌, ◌≤◌, ◌<◌, ◌-◌, ℕ, ◌+◌, ◌*◌, length, sym, subst, Ok, Err, arith}
+use Rattle.std.proofs.Common.{◌-◌, length, sym, subst, arith}
 use Rattle.star_parser.specs.Reading.{kinds}
 use Rattle.star_parser.specs.Trees.{IsLeast}
 use Rattle.star_parser.proofs.Texts.{when_read, when_refused}
@@ -26,11 +26,11 @@ returns-in-Err-Unexpected-clause-unexpected c =
     let i = c.in-Err-Unexpected.field-0-is in
     let t = c.depth_of_terms.ensures in let b = c.depth_of_blocks.ensures in
     let h = when_refused c.depth_of_terms.result c.depth_of_blocks.result c.args.tokens.now c.whole.new.tokens.rest.now c.requires (omega arith) (omega arith) (c.in-Err-Unexpected.ensures (λ e. cc)) in
-    subst (λ n. IsLeast (length c.args.tokens.now - n) (kinds c.args.tokens.now)) (sym c.left.ensures) h.1.0
+    subst (λ n. IsLeast (length c.args.tokens.now - n) (kinds c.args.tokens.now)) (sym c.left.ensures) h.1
 
 pub returns-in-Err-Unexpected-clause-complete : goal.returns-in-Err-Unexpected-clause-complete
 returns-in-Err-Unexpected-clause-complete c =
     let i = c.in-Err-Unexpected.field-0-is in
     let t = c.depth_of_terms.ensures in let b = c.depth_of_blocks.ensures in
     let h = when_refused c.depth_of_terms.result c.depth_of_blocks.result c.args.tokens.now c.whole.new.tokens.rest.now c.requires (omega arith) (omega arith) (c.in-Err-Unexpected.ensures (λ e. cc)) in
-    h.1.1
+    h.2

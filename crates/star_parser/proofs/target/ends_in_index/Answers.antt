@@ -1,4 +1,4 @@
-use Rattle.std.proofs.Common.{◌≡◌, arith}
+use Rattle.std.proofs.Common.{arith}
 use Rattle.std.proofs.lemmas.Grind.{common_steps}
 use Rattle.star_parser.proofs.Targets.{ends_last}
 use Rattle.star_parser.proofs.target.ends_in_index.Goals as goal

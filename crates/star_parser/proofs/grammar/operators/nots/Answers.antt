@@ -1,4 +1,4 @@
-use Rattle.std.proofs.Common.{rules, arith}
+use Rattle.std.proofs.Common.{arith}
 use Rattle.std.proofs.lemmas.Grind.{common_steps}
 use Rattle.star_parser.specs.Tables.{nots_from}
 use Rattle.star_parser.proofs.Turns.{one_more}
