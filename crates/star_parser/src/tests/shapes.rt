@@ -1,5 +1,6 @@
 //! Which nodes the trees of tokens have.
 
+use crate::one_tree;
 use crate::tests::Answer::Tree;
 use crate::tests::notation::tokens_of;
 use crate::tests::statement_shape::shape_of;
@@ -161,6 +162,7 @@ const STATEMENTS: [(&str, &str); 16] = [
 
 #[test]
 fn statements(rt: HostRuntime) -> Result<(), Fail> {
+    one_tree();
     for (row, want) in STATEMENTS {
         let found = shape(rt.alloc(), row)?;
         assert_eq!(rt; found.as_str(), want, "in {row}");
