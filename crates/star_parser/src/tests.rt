@@ -11,6 +11,7 @@ use self::notation::{row_of, tokens_of};
 use crate::{ParseFault, parse};
 use star_syntax::{Module, Spanned, Token, spell};
 use std::alloc::Global;
+use std::process::Abort;
 use std::test::Fail;
 
 /// What tokens are read as.
@@ -50,4 +51,12 @@ pub fn answer_to(alloc: Global, row: &str) -> Result<Answer, Fail> {
         Err(ParseFault::Unexpected { place }) => Ok(Answer::At(place)),
         Err(ParseFault::NoMemory) => Err(Fail::from("no memory")),
     }
+}
+
+/// Each row is read as it says.
+pub fn check_rows(rt: &impl Abort, alloc: Global, rows: &[(&str, Answer)]) -> Result<(), Fail> {
+    for (row, want) in rows {
+        assert_eq!(rt; answer_to(alloc, row)?, *want, "in {row}");
+    }
+    Ok(())
 }

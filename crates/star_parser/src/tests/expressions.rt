@@ -1,12 +1,12 @@
 //! Rows of expressions.
 
 use crate::tests::Answer::{At, Tree};
-use crate::tests::{Answer, answer_to};
+use crate::tests::{Answer, check_rows};
 use std::test::Fail;
 
 /// A row has a tree, or the least place with which no tree goes on: no cell begins with the tokens up to it,
 /// and some cell begins with those before it. Places count from 0.
-const OPERATORS: [(&str, Answer); 89] = [
+const OPERATORS: [(&str, Answer); 49] = [
     // A conditional.
     ("a if b else c NL END", Tree),
     ("a if b else c if d else e NL END", Tree),
@@ -63,6 +63,11 @@ const OPERATORS: [(&str, Answer); 89] = [
     ("a not in NL END", At(3)),
     ("a not in not b NL END", At(3)),
     ("not a == not b NL END", At(3)),
+];
+
+/// A row has a tree, or the least place with which no tree goes on: no cell begins with the tokens up to it,
+/// and some cell begins with those before it. Places count from 0.
+const CHAINS: [(&str, Answer); 40] = [
     // Chains of `|`, `^` and `&`.
     ("a | b | c NL END", Tree),
     ("a ^ b ^ c NL END", Tree),
@@ -110,7 +115,7 @@ const OPERATORS: [(&str, Answer); 89] = [
 
 /// A row has a tree, or the least place with which no tree goes on: no cell begins with the tokens up to it,
 /// and some cell begins with those before it. Places count from 0.
-const PRIMARIES: [(&str, Answer); 135] = [
+const PRIMARIES: [(&str, Answer); 36] = [
     // Suffixes.
     ("a [ b ] ( c ) . d ( e ) [ f ] NL END", Tree),
     ("'a' . b ( ) ; 1 ( ) ; [ ] [ 0 ] ; { } . c ( ) NL END", Tree),
@@ -152,6 +157,11 @@ const PRIMARIES: [(&str, Answer); 135] = [
     ("a [ : b : , ] NL END", At(5)),
     ("a [ b : c : d : e ] NL END", At(7)),
     ("a [ b : c if d : e ] NL END", At(7)),
+];
+
+/// A row has a tree, or the least place with which no tree goes on: no cell begins with the tokens up to it,
+/// and some cell begins with those before it. Places count from 0.
+const ARGUMENTS: [(&str, Answer); 26] = [
     // Arguments.
     ("f ( a , b , ) NL END", Tree),
     ("f ( a , b = c , d = e , ) NL END", Tree),
@@ -180,6 +190,11 @@ const PRIMARIES: [(&str, Answer); 135] = [
     ("f ( a = b = c ) NL END", At(5)),
     ("f ( a [ 0 ] = b ) NL END", At(6)),
     ("f ( a = 1 , b + 2 ) NL END", At(7)),
+];
+
+/// A row has a tree, or the least place with which no tree goes on: no cell begins with the tokens up to it,
+/// and some cell begins with those before it. Places count from 0.
+const BRACKETS: [(&str, Answer); 31] = [
     // Atoms without brackets.
     ("a , 1 , 'b' , None , True , False NL END", Tree),
     ("None ; True ; False ; '' ; 0 NL END", Tree),
@@ -214,6 +229,11 @@ const PRIMARIES: [(&str, Answer); 135] = [
     ("[ a if b ] NL END", At(4)),
     ("[ a if b for c in d ] NL END", At(4)),
     ("[ a , b , , ] NL END", At(5)),
+];
+
+/// A row has a tree, or the least place with which no tree goes on: no cell begins with the tokens up to it,
+/// and some cell begins with those before it. Places count from 0.
+const PAIRS: [(&str, Answer); 42] = [
     // Curly brackets, and pairs.
     ("{ } , { a : b } , { a : b , } NL END", Tree),
     ("{ 'a' : [ ] , 1 : { } , } NL END", Tree),
@@ -268,16 +288,30 @@ const PRIMARIES: [(&str, Answer); 135] = [
 
 #[test]
 fn operators(rt: HostRuntime) -> Result<(), Fail> {
-    for (row, want) in OPERATORS {
-        assert_eq!(rt; answer_to(rt.alloc(), row)?, want, "in {row}");
-    }
-    Ok(())
+    check_rows(&rt, rt.alloc(), &OPERATORS)
+}
+
+#[test]
+fn chains(rt: HostRuntime) -> Result<(), Fail> {
+    check_rows(&rt, rt.alloc(), &CHAINS)
 }
 
 #[test]
 fn primaries(rt: HostRuntime) -> Result<(), Fail> {
-    for (row, want) in PRIMARIES {
-        assert_eq!(rt; answer_to(rt.alloc(), row)?, want, "in {row}");
-    }
-    Ok(())
+    check_rows(&rt, rt.alloc(), &PRIMARIES)
+}
+
+#[test]
+fn arguments(rt: HostRuntime) -> Result<(), Fail> {
+    check_rows(&rt, rt.alloc(), &ARGUMENTS)
+}
+
+#[test]
+fn brackets(rt: HostRuntime) -> Result<(), Fail> {
+    check_rows(&rt, rt.alloc(), &BRACKETS)
+}
+
+#[test]
+fn pairs(rt: HostRuntime) -> Result<(), Fail> {
+    check_rows(&rt, rt.alloc(), &PAIRS)
 }

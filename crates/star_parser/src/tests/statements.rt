@@ -1,12 +1,12 @@
 //! Rows of statements.
 
 use crate::tests::Answer::{At, Tree};
-use crate::tests::{Answer, answer_to};
+use crate::tests::{Answer, check_rows};
 use std::test::Fail;
 
 /// A row has a tree, or the least place with which no tree goes on: no cell begins with the tokens up to it,
 /// and some cell begins with those before it. Places count from 0.
-const CELLS: [(&str, Answer); 98] = [
+const CELLS: [(&str, Answer); 50] = [
     // A cell: statements, and End.
     ("END", Tree),
     ("pass NL pass NL END", Tree),
@@ -61,6 +61,11 @@ const CELLS: [(&str, Answer); 98] = [
     ("def f ( a = ) : pass NL END", At(5)),
     ("def f ( a = 1 1 ) : pass NL END", At(6)),
     ("def f ( a = b if c ) : pass NL END", At(8)),
+];
+
+/// A row has a tree, or the least place with which no tree goes on: no cell begins with the tokens up to it,
+/// and some cell begins with those before it. Places count from 0.
+const BLOCKS: [(&str, Answer); 48] = [
     // Branches.
     ("if a : pass NL END", Tree),
     ("if a : pass NL elif b : pass NL elif c : pass NL END", Tree),
@@ -119,7 +124,7 @@ const CELLS: [(&str, Answer); 98] = [
 
 /// A row has a tree, or the least place with which no tree goes on: no cell begins with the tokens up to it,
 /// and some cell begins with those before it. Places count from 0.
-const LINES: [(&str, Answer); 96] = [
+const LINES: [(&str, Answer); 23] = [
     // A line of small statements.
     ("a ; b NL END", Tree),
     ("a ; b ; NL END", Tree),
@@ -145,6 +150,11 @@ const LINES: [(&str, Answer); 96] = [
     ("pass . a ( ) NL END", At(1)),
     ("return a = b NL END", At(2)),
     ("return a , NL END", At(3)),
+];
+
+/// A row has a tree, or the least place with which no tree goes on: no cell begins with the tokens up to it,
+/// and some cell begins with those before it. Places count from 0.
+const ASSIGNMENTS: [(&str, Answer); 34] = [
     // An assignment.
     ("a = b NL END", Tree),
     ("a , b = c , d NL END", Tree),
@@ -185,6 +195,11 @@ const LINES: [(&str, Answer); 96] = [
     ("a , NL END", At(2)),
     ("a , b c NL END", At(3)),
     ("a , b , NL END", At(4)),
+];
+
+/// A row has a tree, or the least place with which no tree goes on: no cell begins with the tokens up to it,
+/// and some cell begins with those before it. Places count from 0.
+const TARGETS: [(&str, Answer); 39] = [
     // Targets.
     ("( a ) = b NL END", Tree),
     ("( a , b ) = 1 NL END", Tree),
@@ -230,16 +245,25 @@ const LINES: [(&str, Answer); 96] = [
 
 #[test]
 fn cells(rt: HostRuntime) -> Result<(), Fail> {
-    for (row, want) in CELLS {
-        assert_eq!(rt; answer_to(rt.alloc(), row)?, want, "in {row}");
-    }
-    Ok(())
+    check_rows(&rt, rt.alloc(), &CELLS)
+}
+
+#[test]
+fn blocks(rt: HostRuntime) -> Result<(), Fail> {
+    check_rows(&rt, rt.alloc(), &BLOCKS)
 }
 
 #[test]
 fn lines(rt: HostRuntime) -> Result<(), Fail> {
-    for (row, want) in LINES {
-        assert_eq!(rt; answer_to(rt.alloc(), row)?, want, "in {row}");
-    }
-    Ok(())
+    check_rows(&rt, rt.alloc(), &LINES)
+}
+
+#[test]
+fn assignments(rt: HostRuntime) -> Result<(), Fail> {
+    check_rows(&rt, rt.alloc(), &ASSIGNMENTS)
+}
+
+#[test]
+fn targets(rt: HostRuntime) -> Result<(), Fail> {
+    check_rows(&rt, rt.alloc(), &TARGETS)
 }
