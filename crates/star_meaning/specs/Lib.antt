@@ -13,4 +13,5 @@ pub mod Cells
 pub mod Trees
 pub mod Rows
 pub mod Validity
+pub mod Renaming
 pub mod Agreement

@@ -1,0 +1,25 @@
+-- States in which cells have other names.
+use Rattle.std.specs.Prelude.{◌≡◌, ℕ, List, map}
+use Rattle.star_meaning.specs.State.{Object, AList, ADict, AFunction, State}
+use Rattle.star_meaning.specs.Steps.{Outcome, Went, Failed, Store, Action}
+use Rattle.star_meaning.specs.World.{World}
+use Rattle.star_meaning.specs.Validity.{renamed}
+
+module _ {C D : Type 0} (name : C → D) where
+  abbrev pub state_as : State C → State D
+  state_as s = record { globals = s.globals; objects = map (renamed name) s.objects }
+
+  abbrev pub store_as : Store C → Store D
+  store_as s = record { state = state_as s.state; left = s.left }
+
+  abbrev pub world_as : World C → World D
+  world_as w = record { store = store_as w.store; frame = w.frame; out = w.out }
+
+-- an outcome in other states
+abbrev pub outcome_as : {W V E A : Type 0} → (W → V) → Outcome W E A → Outcome V E A
+outcome_as f (Went a w) = Went a (f w)
+outcome_as f (Failed e w) = Failed e (f w)
+
+-- an operation and its counterpart do the same in states that are alike but for the names of cells
+abbrev pub Same : {C D A : Type 0} → (C → D) → Action C A → Action D A → Type 0
+Same name p q = (s : Store _) → q (store_as name s) ≡ outcome_as (store_as name) (p s)
