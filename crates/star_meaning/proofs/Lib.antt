@@ -3,4 +3,10 @@ pub mod Evaluated
 pub mod OneCell
 pub mod Opened
 pub mod Renamed
+pub mod RenamedComparing
+pub mod RenamedShowing
+pub mod RenamedOperators
+pub mod RenamedBuiltins
+pub mod RenamedMethods
+pub mod RenamedWorld
 pub mod Sequences

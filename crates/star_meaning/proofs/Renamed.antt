@@ -13,22 +13,22 @@ use Rattle.star_meaning.specs.Renaming.{state_as, store_as, outcome_as, Same}
 module _ {C D : Type 0} (name : C → D) where
   then_at : {A B : Type 0} (o : Outcome (Store C) Failure A) (g : A → Action C B) (h : A → Action D B)
       → ((a : A) → Same name (g a) (h a)) → and_then (outcome_as (store_as name) o) h ≡ outcome_as (store_as name) (and_then o g)
-  then_at (Went a s) g h k = k a s
+  then_at (Went a s) g h k = (k a).holds s
   then_at (Failed e s) g h k = refl
 
   pub same_then : {A B : Type 0} (p : Action C A) (q : Action D A) (g : A → Action C B) (h : A → Action D B)
       → Same name p q → ((a : A) → Same name (g a) (h a)) → Same name (p >>= g) (q >>= h)
-  same_then p q g h k l s = ap (λ o. and_then o h) (k s) ∙ then_at (p s) g h l
+  same_then p q g h k l = record { holds = λ s. ap (λ o. and_then o h) (k.holds s) ∙ then_at (p s) g h l }
 
   pub same_pure : {A : Type 0} (a : A) → Same name (pure a) (pure a)
-  same_pure a s = refl
+  same_pure a = record { holds = λ s. refl }
 
   pub same_fail : {A : Type 0} (e : Failure) → Same {A = A} name (fail e) (fail e)
-  same_fail e s = refl
+  same_fail e = record { holds = λ s. refl }
 
   pub same_given_or : {A : Type 0} (e : Failure) (o : Option A) → Same name (given_or e o) (given_or e o)
-  same_given_or e None s = refl
-  same_given_or e (Some a) s = refl
+  same_given_or e None = record { holds = λ s. refl }
+  same_given_or e (Some a) = record { holds = λ s. refl }
 
   paid_same : (s : State C) (c : Result (Unit {0}) Failure × ℕ) → paid (state_as name s) c ≡ outcome_as (store_as name) (paid s c)
   paid_same s (Ok done, left) = refl
@@ -36,17 +36,17 @@ module _ {C D : Type 0} (name : C → D) where
 
   pub same_charge : (n : ℕ) → Same name (charge n) (charge n)
   unfolding charge
-  same_charge n s = paid_same s.state (charged s.left n)
+  same_charge n = record { holds = λ s. paid_same s.state (charged s.left n) }
 
   pub same_read : {A : Type 0} (of : State C → A) (other : State D → A) → ((s : State C) → other (state_as name s) ≡ of s) → Same name (read of) (read other)
-  same_read of other k s = ap (λ a. Went a (store_as name s)) (k s.state)
+  same_read of other k = record { holds = λ s. ap (λ a. Went a (store_as name s)) (k s.state) }
 
   pub same_change : (by : State C → State C) (other : State D → State D) → ((s : State C) → other (state_as name s) ≡ state_as name (by s)) → Same name (change by) (change other)
-  same_change by other k s = ap (λ t. Went tt (record { state = t; left = s.left })) (k s.state)
+  same_change by other k = record { holds = λ s. ap (λ t. Went tt (record { state = t; left = s.left })) (k s.state) }
 
   -- ---- reads and changes
 
-  get_same : (os : List (Object C)) (id : ℕ) → slice_get (map (renamed name) os) id ≡ option_map (renamed name) (slice_get os id)
+  pub get_same : (os : List (Object C)) (id : ℕ) → slice_get (map (renamed name) os) id ≡ option_map (renamed name) (slice_get os id)
   get_same [] id = refl
   get_same (o ∷ os) zero = refl
   get_same (o ∷ os) (suc id) = get_same os id
@@ -99,3 +99,5 @@ module _ {C D : Type 0} (name : C → D) where
   pub next_id_as : (s : State C) → next_id (state_as name s) ≡ next_id s
   unfolding next_id
   next_id_as s = length_same s.objects
+
+pub ruleset sames = (same_then, same_pure, same_fail, same_given_or, same_charge, same_read, same_change, list_as, dict_as, with_list_as, with_dict_as)

@@ -1,7 +1,7 @@
 -- States in which cells have other names.
 use Rattle.std.specs.Prelude.{◌≡◌, ℕ, List, map}
 use Rattle.star_meaning.specs.State.{Object, AList, ADict, AFunction, State}
-use Rattle.star_meaning.specs.Steps.{Outcome, Went, Failed, Store, Action}
+use Rattle.star_meaning.specs.Steps.{Outcome, Went, Failed, Steps, Store, Action}
 use Rattle.star_meaning.specs.World.{World}
 use Rattle.star_meaning.specs.Validity.{renamed}
 
@@ -21,5 +21,9 @@ outcome_as f (Went a w) = Went a (f w)
 outcome_as f (Failed e w) = Failed e (f w)
 
 -- an operation and its counterpart do the same in states that are alike but for the names of cells
-abbrev pub Same : {C D A : Type 0} → (C → D) → Action C A → Action D A → Type 0
-Same name p q = (s : Store _) → q (store_as name s) ≡ outcome_as (store_as name) (p s)
+pub record Same {C D A : Type 0} (name : C → D) (p : Action C A) (q : Action D A) : Type 0 where
+  pub holds : (s : Store C) → q (store_as name s) ≡ outcome_as (store_as name) (p s)
+
+-- the same of the steps of expressions and statements
+pub record SameSteps {C D E A : Type 0} (name : C → D) (p : Steps (World C) E A) (q : Steps (World D) E A) : Type 0 where
+  pub holds : (w : World C) → q (world_as name w) ≡ outcome_as (world_as name) (p w)
