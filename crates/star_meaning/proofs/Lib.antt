@@ -9,4 +9,6 @@ pub mod RenamedOperators
 pub mod RenamedBuiltins
 pub mod RenamedMethods
 pub mod RenamedWorld
+pub mod RenamedExpressions
+pub mod RenamedForms
 pub mod Sequences

@@ -2,7 +2,10 @@
 use Rattle.std.specs.Prelude.{◌≡◌, ℕ, List, map}
 use Rattle.star_meaning.specs.State.{Object, AList, ADict, AFunction, State}
 use Rattle.star_meaning.specs.Steps.{Outcome, Went, Failed, Steps, Store, Action}
-use Rattle.star_meaning.specs.World.{World}
+use Rattle.star_value.specs.declared.value.Value.{Value}
+use Rattle.star_meaning.specs.Builtins.{ByName}
+use Rattle.star_meaning.specs.World.{World, Work}
+use Rattle.star_meaning.specs.Expressions.{Setting, Callee, Meant}
 use Rattle.star_meaning.specs.Validity.{renamed}
 
 module _ {C D : Type 0} (name : C → D) where
@@ -27,3 +30,20 @@ pub record Same {C D A : Type 0} (name : C → D) (p : Action C A) (q : Action D
 -- the same of the steps of expressions and statements
 pub record SameSteps {C D E A : Type 0} (name : C → D) (p : Steps (World C) E A) (q : Steps (World D) E A) : Type 0 where
   pub holds : (w : World C) → q (world_as name w) ≡ outcome_as (world_as name) (p w)
+
+-- the same of what does not change while a cell runs, of calls of functions, and of the meanings of trees
+pub record SameSetting {C D : Type 0} (name : C → D) (st : Setting C) (su : Setting D) : Type 0 where
+  pub define : (c : C) (n : ℕ) → su.define (name c) n ≡ st.define c n
+  pub cell : su.cell ≡ name st.cell
+  pub inputs : su.inputs ≡ st.inputs
+
+abbrev pub SameCallee : {C D : Type 0} → (C → D) → Callee C → Callee D → Type 0
+SameCallee name c d = (id : ℕ) (vs : List Value) (by_name : ByName) → SameSteps name (c id vs by_name) (d id vs by_name)
+
+pub record SameMeant {C D : Type 0} (name : C → D) (m : Meant C) (n : Meant D) : Type 0 where
+  pub value : SameSteps name m.value n.value
+  pub store : (v : Value) → SameSteps name (m.store v) (n.store v)
+  pub update : (f : Value → Work C Value) (g : Value → Work D Value) → ((v : Value) → SameSteps name (f v) (g v)) → SameSteps name (m.update f) (n.update g)
+  pub names : n.names ≡ m.names
+  pub is_input : n.is_input ≡ m.is_input
+  pub literal : n.literal ≡ m.literal
