@@ -18,6 +18,8 @@ use Rattle.star_syntax.specs.declared.expression.Pair.{Pair}
 use Rattle.star_syntax.specs.declared.expression.ChainOp.{ChainOp}
 use Rattle.star_syntax.specs.declared.expression.ChainOp.TheVariants as chain
 use Rattle.star_syntax.specs.declared.operator.BinaryOp.{BinaryOp}
+use Rattle.star_syntax.specs.declared.operator.CompareOp.{CompareOp}
+use Rattle.star_syntax.specs.declared.operator.UnaryOp.{UnaryOp}
 use Rattle.star_value.specs.declared.failure.Failure.{Failure}
 use Rattle.star_value.specs.declared.failure.Failure.TheVariants as failure
 use Rattle.star_value.specs.declared.value.Value.{Value, out-Value}
@@ -27,7 +29,7 @@ use Rattle.star_meaning.specs.Steps.{Action, Steps, ◌>>=◌, ◌>>◌, pure, f
 use Rattle.star_meaning.specs.Operators as operators
 use Rattle.star_meaning.specs.Builtins.{ByName, call_builtin}
 use Rattle.star_meaning.specs.World.{Work, World, acting, bind, look_up, operate, operation, write}
-use Rattle.star_meaning.specs.Expressions.{Callee, Meant, Setting, call_written, called, called_at, chained, choose, front, headed, input_name, input_value, layer_names, linked, literal_of, lone_literal, meant, name_of, named_values, names_input, naming, parts, place, read_input, step, store_at, store_step, suffix_value, suffixed, update_step, value_step, without_first}
+use Rattle.star_meaning.specs.Expressions.{Callee, Meant, Setting, call_written, called, called_at, chained, choose, front, headed, input_name, input_value, layer_names, linked, literal_of, lone_literal, meant, name_of, named_values, names_input, naming, parts, place, read_input, step, store_at, store_step, suffix_value, suffixed, turned, update_step, value_step, without_first}
 use Rattle.star_meaning.specs.Renaming.{Same, SameSteps, SameSetting, SameCallee, SameMeant}
 use Rattle.star_meaning.proofs.Renamed.{same_then, same_given_or, same_charge}
 use Rattle.star_meaning.proofs.RenamedShowing.{same_new_dict, same_new_list, same_new_tuple}
@@ -125,3 +127,235 @@ module _ {C D : Type 0} (name : C → D) (st : Setting C) (su : Setting D) (same
   same_suffixed (x ∷ xs) (y ∷ ys) h v = same_next name _ _ _ _ (same_suffix_value x y h.0 v) (same_suffixed xs ys h.1)
   same_suffixed [] (y ∷ ys) h v = absurd h
   same_suffixed (x ∷ xs) [] h v = absurd h
+
+  -- ---- what is indexed or called, and places
+
+  lone_as : (ms : List (Meant C)) (ns : List (Meant D)) → Each (Alike name) ms ns → lone_literal su d ns ≡ lone_literal st c ms
+  lone_as [] [] h = refl
+  lone_as (m ∷ []) (n ∷ []) h = h.0.literal
+  lone_as (m ∷ l ∷ ms) (n ∷ o ∷ ns) h = refl
+  lone_as [] (n ∷ ns) h = absurd h
+  lone_as (m ∷ ms) [] h = absurd h
+  lone_as (m ∷ []) (n ∷ o ∷ ns) h = absurd h.1
+  lone_as (m ∷ l ∷ ms) (n ∷ []) h = absurd h.1
+
+  input_as : (b : Bool) (xs : List (Suffix (Meant C))) (ys : List (Suffix (Meant D))) → Each AlikeSuffix xs ys → input_name su d b ys ≡ input_name st c b xs
+  input_as false xs ys h = refl
+  input_as true [] [] h = refl
+  input_as true (suffix.Call x ∷ xs) (suffix.Call y ∷ ys) h = lone_as x.positional y.positional h.0.0
+  input_as true (suffix.Index at ∷ xs) (suffix.Index to ∷ ys) h = refl
+  input_as true (suffix.Slice i j k ∷ xs) (suffix.Slice a b e ∷ ys) h = refl
+  input_as true (suffix.Method n x ∷ xs) (suffix.Method m y ∷ ys) h = refl
+  input_as true [] (y ∷ ys) h = absurd h
+  input_as true (x ∷ xs) [] h = absurd h
+  input_as true (suffix.Index at ∷ xs) (suffix.Slice a b e ∷ ys) h = absurd h.0
+  input_as true (suffix.Index at ∷ xs) (suffix.Call y ∷ ys) h = absurd h.0
+  input_as true (suffix.Index at ∷ xs) (suffix.Method m y ∷ ys) h = absurd h.0
+  input_as true (suffix.Slice i j k ∷ xs) (suffix.Index to ∷ ys) h = absurd h.0
+  input_as true (suffix.Slice i j k ∷ xs) (suffix.Call y ∷ ys) h = absurd h.0
+  input_as true (suffix.Slice i j k ∷ xs) (suffix.Method m y ∷ ys) h = absurd h.0
+  input_as true (suffix.Call x ∷ xs) (suffix.Index to ∷ ys) h = absurd h.0
+  input_as true (suffix.Call x ∷ xs) (suffix.Slice a b e ∷ ys) h = absurd h.0
+  input_as true (suffix.Call x ∷ xs) (suffix.Method m y ∷ ys) h = absurd h.0
+  input_as true (suffix.Method n x ∷ xs) (suffix.Index to ∷ ys) h = absurd h.0
+  input_as true (suffix.Method n x ∷ xs) (suffix.Slice a b e ∷ ys) h = absurd h.0
+  input_as true (suffix.Method n x ∷ xs) (suffix.Call y ∷ ys) h = absurd h.0
+
+  rest_alike : (xs : List (Suffix (Meant C))) (ys : List (Suffix (Meant D))) → Each AlikeSuffix xs ys → Each AlikeSuffix (without_first st c xs) (without_first su d ys)
+  rest_alike [] [] h = tt
+  rest_alike (x ∷ xs) (y ∷ ys) h = h.1
+  rest_alike [] (y ∷ ys) h = absurd h
+  rest_alike (x ∷ xs) [] h = absurd h
+
+  abbrev AlikeFront : Work C Value × List (Suffix (Meant C)) → Work D Value × List (Suffix (Meant D)) → Type 0
+  AlikeFront p q = SameSteps name p.0 q.0 × Each AlikeSuffix p.1 q.1
+
+  headed_alike : (m : Meant C) (n : Meant D) (xs : List (Suffix (Meant C))) (ys : List (Suffix (Meant D))) → Alike name m n → Each AlikeSuffix xs ys → (o : Option (List ℕ))
+      → AlikeFront (headed st c m xs o) (headed su d n ys o)
+  headed_alike m n xs ys h k None = (h.value, k)
+  headed_alike m n xs ys h k (Some i) = (same_read_input i, rest_alike xs ys k)
+
+  front_alike : (m : Meant C) (n : Meant D) (xs : List (Suffix (Meant C))) (ys : List (Suffix (Meant D))) → Alike name m n → Each AlikeSuffix xs ys → AlikeFront (front st c m xs) (front su d n ys)
+  front_alike m n xs ys h k =
+      subst (λ o. AlikeFront (front st c m xs) (headed su d n ys o)) (sym (ap (λ b. input_name su d b ys) h.is_input ∙ input_as m.is_input xs ys k))
+      (headed_alike m n xs ys h k (input_name st c m.is_input xs))
+
+  same_parts : (xs : List (Suffix (Meant C))) (ys : List (Suffix (Meant D))) → Each AlikeSuffix xs ys → (v : Value) → SameSteps name (parts st c xs v) (parts su d ys v)
+  same_parts [] [] h v = same_failing name failure.WrongType
+  same_parts (suffix.Index at ∷ []) (suffix.Index to ∷ []) h v = same_next name _ _ _ _ h.0.value (λ i. same_going name (v, i))
+  same_parts (suffix.Index at ∷ x ∷ xs) (suffix.Index to ∷ y ∷ ys) h v = same_next name _ _ _ _ (same_suffix_value (suffix.Index at) (suffix.Index to) h.0 v) (same_parts (x ∷ xs) (y ∷ ys) h.1)
+  same_parts (suffix.Slice i j k ∷ xs) (suffix.Slice a b e ∷ ys) h v = same_next name _ _ _ _ (same_suffix_value (suffix.Slice i j k) (suffix.Slice a b e) h.0 v) (same_parts xs ys h.1)
+  same_parts (suffix.Call x ∷ xs) (suffix.Call y ∷ ys) h v = same_next name _ _ _ _ (same_suffix_value (suffix.Call x) (suffix.Call y) h.0 v) (same_parts xs ys h.1)
+  same_parts (suffix.Method n x ∷ xs) (suffix.Method m y ∷ ys) h v = same_next name _ _ _ _ (same_suffix_value (suffix.Method n x) (suffix.Method m y) h.0 v) (same_parts xs ys h.1)
+  same_parts [] (y ∷ ys) h v = absurd h
+  same_parts (x ∷ xs) [] h v = absurd h
+  same_parts (suffix.Index at ∷ []) (suffix.Index to ∷ y ∷ ys) h v = absurd h.1
+  same_parts (suffix.Index at ∷ x ∷ xs) (suffix.Index to ∷ []) h v = absurd h.1
+  same_parts (suffix.Index at ∷ xs) (suffix.Slice a b e ∷ ys) h v = absurd h.0
+  same_parts (suffix.Index at ∷ xs) (suffix.Call y ∷ ys) h v = absurd h.0
+  same_parts (suffix.Index at ∷ xs) (suffix.Method m y ∷ ys) h v = absurd h.0
+  same_parts (suffix.Slice i j k ∷ xs) (suffix.Index to ∷ ys) h v = absurd h.0
+  same_parts (suffix.Slice i j k ∷ xs) (suffix.Call y ∷ ys) h v = absurd h.0
+  same_parts (suffix.Slice i j k ∷ xs) (suffix.Method m y ∷ ys) h v = absurd h.0
+  same_parts (suffix.Call x ∷ xs) (suffix.Index to ∷ ys) h v = absurd h.0
+  same_parts (suffix.Call x ∷ xs) (suffix.Slice a b e ∷ ys) h v = absurd h.0
+  same_parts (suffix.Call x ∷ xs) (suffix.Method m y ∷ ys) h v = absurd h.0
+  same_parts (suffix.Method n x ∷ xs) (suffix.Index to ∷ ys) h v = absurd h.0
+  same_parts (suffix.Method n x ∷ xs) (suffix.Slice a b e ∷ ys) h v = absurd h.0
+  same_parts (suffix.Method n x ∷ xs) (suffix.Call y ∷ ys) h v = absurd h.0
+
+  same_place : (m : Meant C) (n : Meant D) (xs : List (Suffix (Meant C))) (ys : List (Suffix (Meant D))) → Alike name m n → Each AlikeSuffix xs ys → SameSteps name (place st c m xs) (place su d n ys)
+  same_place m n xs ys h k = let f = front_alike m n xs ys h k in same_next name _ _ _ _ f.0 (same_parts (front st c m xs).1 (front su d n ys).1 f.1)
+
+  -- ---- each form, over parts that mean the same
+
+  names_alike : (ms : List (Meant C)) (ns : List (Meant D)) → Each (Alike name) ms ns → flat_map (λ x. x) (map (λ n. n.names) ns) ≡ flat_map (λ x. x) (map (λ m. m.names) ms)
+  names_alike [] [] h = refl
+  names_alike (m ∷ ms) (n ∷ ns) h = ap (λ xs. xs ++ flat_map (λ x. x) (map (λ o. o.names) ns)) h.0.names ∙ ap (λ xs. m.names ++ xs) (names_alike ms ns h.1)
+  names_alike [] (n ∷ ns) h = absurd h
+  names_alike (m ∷ ms) [] h = absurd h
+
+  -- a form that is no target
+  abbrev Forms : Expr-F (Meant C) → Expr-F (Meant D) → Type 0
+  Forms x y = SameMeant name (step st c x) (step su d y)
+
+  name_form : (n : List ℕ) → Forms (Expr-F.Name n) (Expr-F.Name n)
+  name_form n = record {
+    value = same_operation name _ _ (same_look_up name n);
+    store = λ v. same_bind name n v;
+    update = λ f g h. same_next name _ _ _ _ (same_next name _ _ _ _ (same_operation name _ _ (same_look_up name n)) h) (same_bind name n);
+    names = refl; is_input = refl; literal = refl;
+  }
+
+  -- a literal
+  constant : (v : Value) → SameSteps name (operation (pure v)) (operation (pure v))
+  constant v = same_operation name _ _ (same_going name v)
+
+  never : {A : Type 0} → SameSteps {A = A} name (fail failure.WrongType) (fail failure.WrongType)
+  never = same_failing name failure.WrongType
+
+  paren_form : (m : Meant C) (n : Meant D) → Alike name m n → Forms (Expr-F.Paren m) (Expr-F.Paren n)
+  paren_form m n h = record { value = h.value; store = h.store; update = λ f g k. never; names = h.names; is_input = refl; literal = refl }
+
+  tuple_form : (ms : List (Meant C)) (ns : List (Meant D)) (b : Bool) → Each (Alike name) ms ns → Forms (Expr-F.Tuple ms b) (Expr-F.Tuple ns b)
+  tuple_form ms ns b h = record {
+    value = same_next name _ _ _ _ (same_values name ms ns h) (λ vs. same_operate name _ _ (same_new_tuple name vs));
+    store = same_store_items name ms ns h; update = λ f g k. never; names = names_alike ms ns h; is_input = refl; literal = refl;
+  }
+
+  list_form : (ms : List (Meant C)) (ns : List (Meant D)) (b : Bool) → Each (Alike name) ms ns → Forms (Expr-F.List ms b) (Expr-F.List ns b)
+  list_form ms ns b h = record {
+    value = same_next name _ _ _ _ (same_values name ms ns h) (λ vs. same_operate name _ _ (same_new_list name vs));
+    store = same_store_items name ms ns h; update = λ f g k. never; names = names_alike ms ns h; is_input = refl; literal = refl;
+  }
+
+  list_over_form : (m : Meant C) (n : Meant D) (xs : List (Clause (Meant C))) (ys : List (Clause (Meant D))) → Alike name m n → Each (AlikeClause name) xs ys → Forms (Expr-F.ListOver m xs) (Expr-F.ListOver n ys)
+  list_over_form m n xs ys h k = record {
+    value = same_next name _ _ _ _ (same_comprehension name _ _ (same_list_turn name m n h) xs ys k []) (λ vs. same_acting name _ _ (same_new_list name vs));
+    store = λ v. never; update = λ f g l. never; names = refl; is_input = refl; literal = refl;
+  }
+
+  dict_form : (xs : List (Pair (Meant C))) (ys : List (Pair (Meant D))) (b : Bool) → Each (AlikePair name) xs ys → Forms (Expr-F.Dict xs b) (Expr-F.Dict ys b)
+  dict_form xs ys b h = record {
+    value = same_next name _ _ _ _ (same_display_pairs name [] xs ys h) (λ done. same_operate name _ _ (same_new_dict name done));
+    store = λ v. never; update = λ f g k. never; names = refl; is_input = refl; literal = refl;
+  }
+
+  dict_over_form : (k v : Meant C) (l w : Meant D) (xs : List (Clause (Meant C))) (ys : List (Clause (Meant D))) → Alike name k l → Alike name v w → Each (AlikeClause name) xs ys
+      → Forms (Expr-F.DictOver k v xs) (Expr-F.DictOver l w ys)
+  dict_over_form k v l w xs ys h g e = record {
+    value = same_next name _ _ _ _ (same_comprehension name _ _ (same_dict_turn name k v l w h g) xs ys e []) (λ done. same_acting name _ _ (same_new_dict name done));
+    store = λ x. never; update = λ f x y. never; names = refl; is_input = refl; literal = refl;
+  }
+
+  primary_form : (m : Meant C) (n : Meant D) (xs : List (Suffix (Meant C))) (ys : List (Suffix (Meant D))) → Alike name m n → Each AlikeSuffix xs ys → Forms (Expr-F.Primary m xs) (Expr-F.Primary n ys)
+  primary_form m n xs ys h k = let front_is = front_alike m n xs ys h k in record {
+    value = same_next name _ _ _ _ front_is.0 (same_suffixed (front st c m xs).1 (front su d n ys).1 front_is.1);
+    store = λ v. same_next name _ _ _ _ (same_place m n xs ys h k) (λ at. same_store_at name at.0 at.1 v);
+    update = λ f g l. same_next name _ _ _ _ (same_place m n xs ys h k) (λ at. same_next name _ _ _ _ (same_operate name _ _ (same_index name at.0 at.1)) (λ old.
+        same_next name _ _ _ _ (l old) (λ new. same_store_at name at.0 at.1 new)));
+    names = refl; is_input = refl; literal = refl;
+  }
+
+  signed_form : (ss : List UnaryOp) (m : Meant C) (n : Meant D) → Alike name m n → Forms (Expr-F.Signed ss m) (Expr-F.Signed ss n)
+  signed_form ss m n h = record { value = same_next name _ _ _ _ h.value (same_signed name ss); store = λ v. never; update = λ f g k. never; names = refl; is_input = refl; literal = refl }
+
+  chain_form : (level : ChainLevel) (m : Meant C) (n : Meant D) (xs : List (Link (Meant C))) (ys : List (Link (Meant D))) → Alike name m n → Each AlikeLink xs ys → Forms (Expr-F.Chain level m xs) (Expr-F.Chain level n ys)
+  chain_form level m n xs ys h k = record { value = same_next name _ _ _ _ h.value (same_chained xs ys k); store = λ v. never; update = λ f g l. never; names = refl; is_input = refl; literal = refl }
+
+  compare_form : (a b : Meant C) (x y : Meant D) (o : CompareOp) → Alike name a x → Alike name b y → Forms (Expr-F.Compare a o b) (Expr-F.Compare x o y)
+  compare_form a b x y o h k = record {
+    value = same_next name _ _ _ _ h.value (λ u. same_next name _ _ _ _ k.value (λ v. same_operate name _ _ (same_compared name o u v)));
+    store = λ v. never; update = λ f g l. never; names = refl; is_input = refl; literal = refl;
+  }
+
+  not_form : (count : ℕ) (m : Meant C) (n : Meant D) → Alike name m n → Forms (Expr-F.Not count m) (Expr-F.Not count n)
+  not_form count m n h = record {
+    value = same_next name _ _ _ _ h.value (λ v. same_next name _ _ _ _ (same_acting name _ _ (same_charge name count)) (λ _. same_next name _ _ _ _ (same_truth name v) (λ t. same_going name (value.Bool (turned count t)))));
+    store = λ v. never; update = λ f g k. never; names = refl; is_input = refl; literal = refl;
+  }
+
+  conditional_form : (a b e : Meant C) (x y z : Meant D) → Alike name a x → Alike name b y → Alike name e z → Forms (Expr-F.Conditional a b e) (Expr-F.Conditional x y z)
+  conditional_form a b e x y z h k l = record {
+    value = same_next name _ _ _ _ k.value (λ v. same_next name _ _ _ _ (same_acting name _ _ (same_charge name 1)) (λ _. same_next name _ _ _ _ (same_truth name v) (λ t. same_choose name t _ _ _ _ h.value l.value)));
+    store = λ v. never; update = λ f g m. never; names = refl; is_input = refl; literal = refl;
+  }
+
+  -- ---- trees
+
+  -- a tree, with what is shown of its parts
+  abbrev Known : Type 0
+  Known = (e : Expr) × SameMeant name (meant st c e) (meant su d e)
+
+  abbrev bare : Expr-F Known → Expr-F Expr
+  bare = map-Expr Known Expr (λ e. e.0)
+
+  all_known : (es : List Known) → Each (Alike name) (map (meant st c) (map (λ e. e.0) es)) (map (meant su d) (map (λ e. e.0) es))
+  all_known [] = tt
+  all_known (e ∷ es) = (e.1, all_known es)
+
+  -- the two meanings of a layer whose parts are known
+  abbrev lower : Expr-F Known → Expr-F (Meant C)
+  lower y = map-Expr Expr (Meant C) (meant st c) (bare y)
+
+  abbrev upper : Expr-F Known → Expr-F (Meant D)
+  upper y = map-Expr Expr (Meant D) (meant su d) (bare y)
+
+  links_of : {X : Type 0} → Expr-F X → List (Link X)
+  links_of (Expr-F.Chain level first xs) = xs
+  links_of _ = []
+
+  suffixes_of : {X : Type 0} → Expr-F X → List (Suffix X)
+  suffixes_of (Expr-F.Primary head xs) = xs
+  suffixes_of _ = []
+
+  pairs_in : {X : Type 0} → Expr-F X → List (Pair X)
+  pairs_in (Expr-F.Dict xs comma) = xs
+  pairs_in _ = []
+
+  clauses_of : {X : Type 0} → Expr-F X → List (Clause X)
+  clauses_of (Expr-F.ListOver x xs) = xs
+  clauses_of (Expr-F.DictOver k v xs) = xs
+  clauses_of _ = []
+
+  links_known : (level : ChainLevel) (e : Known) (xs : List (Link Known)) → Each AlikeLink (links_of (lower (Expr-F.Chain level e xs))) (links_of (upper (Expr-F.Chain level e xs)))
+  unfolding links_of
+  links_known level e [] = tt
+  links_known level e (x ∷ xs) = (record { op_is = refl; operand_is = x.operand.1 }, links_known level e xs)
+
+  pairs_known : (b : Bool) (xs : List (Pair Known)) → Each (AlikePair name) (pairs_in (lower (Expr-F.Dict xs b))) (pairs_in (upper (Expr-F.Dict xs b)))
+  unfolding pairs_in
+  pairs_known b [] = tt
+  pairs_known b (x ∷ xs) = (record { key_is = x.key.1; value_is = x.value.1 }, pairs_known b xs)
+
+  list_clauses_known : (e : Known) (xs : List (Clause Known)) → Each (AlikeClause name) (clauses_of (lower (Expr-F.ListOver e xs))) (clauses_of (upper (Expr-F.ListOver e xs)))
+  unfolding clauses_of
+  list_clauses_known e [] = tt
+  list_clauses_known e (clause.For targets over ∷ xs) = ((all_known targets, over.1), list_clauses_known e xs)
+  list_clauses_known e (clause.If condition ∷ xs) = (condition.1, list_clauses_known e xs)
+
+  dict_clauses_known : (k v : Known) (xs : List (Clause Known)) → Each (AlikeClause name) (clauses_of (lower (Expr-F.DictOver k v xs))) (clauses_of (upper (Expr-F.DictOver k v xs)))
+  unfolding clauses_of
+  dict_clauses_known k v [] = tt
+  dict_clauses_known k v (clause.For targets over ∷ xs) = ((all_known targets, over.1), dict_clauses_known k v xs)
+  dict_clauses_known k v (clause.If condition ∷ xs) = (condition.1, dict_clauses_known k v xs)
