@@ -359,3 +359,80 @@ module _ {C D : Type 0} (name : C → D) (st : Setting C) (su : Setting D) (same
   dict_clauses_known k v [] = tt
   dict_clauses_known k v (clause.For targets over ∷ xs) = ((all_known targets, over.1), dict_clauses_known k v xs)
   dict_clauses_known k v (clause.If condition ∷ xs) = (condition.1, dict_clauses_known k v xs)
+
+  index_known : (e at : Known) (xs : List (Suffix Known)) → Each AlikeSuffix (suffixes_of (lower (Expr-F.Primary e xs))) (suffixes_of (upper (Expr-F.Primary e xs)))
+      → Each AlikeSuffix (suffixes_of (lower (Expr-F.Primary e (suffix.Index at ∷ xs)))) (suffixes_of (upper (Expr-F.Primary e (suffix.Index at ∷ xs))))
+  unfolding suffixes_of
+  index_known e at xs h = (at.1, h)
+
+  slice_known : (e : Known) (i j : Option Known) (k : Option (Option Known)) (xs : List (Suffix Known)) → Each AlikeSuffix (suffixes_of (lower (Expr-F.Primary e xs))) (suffixes_of (upper (Expr-F.Primary e xs)))
+      → Each AlikeSuffix (suffixes_of (lower (Expr-F.Primary e (suffix.Slice i j k ∷ xs)))) (suffixes_of (upper (Expr-F.Primary e (suffix.Slice i j k ∷ xs))))
+  unfolding suffixes_of
+  slice_known e None None None xs h = ((tt, tt, tt), h)
+  slice_known e None None (Some None) xs h = ((tt, tt, tt), h)
+  slice_known e None None (Some (Some k)) xs h = ((tt, tt, k.1), h)
+  slice_known e None (Some j) None xs h = ((tt, j.1, tt), h)
+  slice_known e None (Some j) (Some None) xs h = ((tt, j.1, tt), h)
+  slice_known e None (Some j) (Some (Some k)) xs h = ((tt, j.1, k.1), h)
+  slice_known e (Some i) None None xs h = ((i.1, tt, tt), h)
+  slice_known e (Some i) None (Some None) xs h = ((i.1, tt, tt), h)
+  slice_known e (Some i) None (Some (Some k)) xs h = ((i.1, tt, k.1), h)
+  slice_known e (Some i) (Some j) None xs h = ((i.1, j.1, tt), h)
+  slice_known e (Some i) (Some j) (Some None) xs h = ((i.1, j.1, tt), h)
+  slice_known e (Some i) (Some j) (Some (Some k)) xs h = ((i.1, j.1, k.1), h)
+
+  named_of : {X : Type 0} → Expr-F X → List (Named X)
+  named_of (Expr-F.Primary head (suffix.Call given ∷ xs)) = given.named
+  named_of (Expr-F.Primary head (suffix.Method n given ∷ xs)) = given.named
+  named_of _ = []
+
+  call_named : (e : Known) (ps : List Known) (b : Bool) (ns : List (Named Known)) (xs : List (Suffix Known))
+      → Each (AlikeNamed name) (named_of (lower (Expr-F.Primary e (suffix.Call (record { positional = ps; named = ns; comma = b }) ∷ xs)))) (named_of (upper (Expr-F.Primary e (suffix.Call (record { positional = ps; named = ns; comma = b }) ∷ xs))))
+  unfolding named_of
+  call_named e ps b [] xs = tt
+  call_named e ps b (n ∷ ns) xs = (record { name_is = refl; value_is = n.value.1 }, call_named e ps b ns xs)
+
+  method_named : (e : Known) (m : List ℕ) (ps : List Known) (b : Bool) (ns : List (Named Known)) (xs : List (Suffix Known))
+      → Each (AlikeNamed name) (named_of (lower (Expr-F.Primary e (suffix.Method m (record { positional = ps; named = ns; comma = b }) ∷ xs)))) (named_of (upper (Expr-F.Primary e (suffix.Method m (record { positional = ps; named = ns; comma = b }) ∷ xs))))
+  unfolding named_of
+  method_named e m ps b [] xs = tt
+  method_named e m ps b (n ∷ ns) xs = (record { name_is = refl; value_is = n.value.1 }, method_named e m ps b ns xs)
+
+  suffixes_known : (e : Known) (xs : List (Suffix Known)) → Each AlikeSuffix (suffixes_of (lower (Expr-F.Primary e xs))) (suffixes_of (upper (Expr-F.Primary e xs)))
+  unfolding suffixes_of named_of
+  suffixes_known e [] = tt
+  suffixes_known e (suffix.Index at ∷ xs) = index_known e at xs (suffixes_known e xs)
+  suffixes_known e (suffix.Slice i j k ∷ xs) = slice_known e i j k xs (suffixes_known e xs)
+  suffixes_known e (suffix.Call given ∷ xs) = ((all_known given.positional, call_named e given.positional given.comma given.named xs), suffixes_known e xs)
+  suffixes_known e (suffix.Method m given ∷ xs) = ((refl, (all_known given.positional, method_named e m given.positional given.comma given.named xs)), suffixes_known e xs)
+
+  layer_same : (y : Expr-F Known) → Forms (lower y) (upper y)
+  unfolding links_of suffixes_of pairs_in clauses_of
+  layer_same (Expr-F.Name n) = name_form n
+  layer_same (Expr-F.Int z) = record { value = constant (value.Int z); store = λ v. never; update = λ f g h. never; names = refl; is_input = refl; literal = refl }
+  layer_same (Expr-F.Text t) = record { value = constant (value.Text t); store = λ v. never; update = λ f g h. never; names = refl; is_input = refl; literal = refl }
+  layer_same Expr-F.None = record { value = constant value.None; store = λ v. never; update = λ f g h. never; names = refl; is_input = refl; literal = refl }
+  layer_same Expr-F.True = record { value = constant (value.Bool true); store = λ v. never; update = λ f g h. never; names = refl; is_input = refl; literal = refl }
+  layer_same Expr-F.False = record { value = constant (value.Bool false); store = λ v. never; update = λ f g h. never; names = refl; is_input = refl; literal = refl }
+  layer_same (Expr-F.Paren e) = paren_form _ _ e.1
+  layer_same (Expr-F.Tuple es b) = tuple_form _ _ b (all_known es)
+  layer_same (Expr-F.List es b) = list_form _ _ b (all_known es)
+  layer_same (Expr-F.ListOver e xs) = list_over_form _ _ _ _ e.1 (list_clauses_known e xs)
+  layer_same (Expr-F.Dict xs b) = dict_form _ _ b (pairs_known b xs)
+  layer_same (Expr-F.DictOver k v xs) = dict_over_form _ _ _ _ _ _ k.1 v.1 (dict_clauses_known k v xs)
+  layer_same (Expr-F.Primary e xs) = primary_form _ _ _ _ e.1 (suffixes_known e xs)
+  layer_same (Expr-F.Signed ss e) = signed_form ss _ _ e.1
+  layer_same (Expr-F.Chain level e xs) = chain_form level _ _ _ _ e.1 (links_known level e xs)
+  layer_same (Expr-F.Compare a o b) = compare_form _ _ _ _ o a.1 b.1
+  layer_same (Expr-F.Not count e) = not_form count _ _ e.1
+  layer_same (Expr-F.Conditional a b e) = conditional_form _ _ _ _ _ _ a.1 b.1 e.1
+
+  rolled_same : (x : Expr-F Expr) → Forms (map-Expr Expr (Meant C) (meant st c) x) (map-Expr Expr (Meant D) (meant su d) x) → SameMeant name (meant st c (roll-Expr x)) (meant su d (roll-Expr x))
+  unfolding meant
+  rolled_same x h =
+      subst (λ m. SameMeant name m (meant su d (roll-Expr x))) (sym (fold-roll-Expr (Meant C) (step st c) x))
+      (subst (λ n. SameMeant name (step st c (map-Expr Expr (Meant C) (meant st c) x)) n) (sym (fold-roll-Expr (Meant D) (step su d) x)) h)
+
+  -- each tree means the same whatever the names of cells
+  pub same_meant : (e : Expr) → SameMeant name (meant st c e) (meant su d e)
+  same_meant = ind-Expr (λ e. SameMeant name (meant st c e) (meant su d e)) (λ x y is. subst (λ z. SameMeant name (meant st c (roll-Expr z)) (meant su d (roll-Expr z))) is (rolled_same _ (layer_same y)))
