@@ -11,4 +11,5 @@ pub mod RenamedMethods
 pub mod RenamedWorld
 pub mod RenamedExpressions
 pub mod RenamedForms
+pub mod RenamedStatements
 pub mod Sequences
