@@ -147,3 +147,142 @@ module _ {C D : Type 0} (name : C → D) where
 
     same_line_of : (last : Bool) (line : Line) → SameSteps name (line_of st c last line) (line_of su d last line)
     same_line_of last line = same_in_order _ _ same_small_of last line.smalls
+
+    -- ---- statements with blocks
+
+    same_condition : (at : ℕ) (e : Expr) → SameSteps name (condition_of st c at e) (condition_of su d at e)
+    same_condition at e = same_located name at _ _ (same_next name _ _ _ _ (same_of e).value (same_truth name))
+
+    same_iterated : (over : List Expr) → SameSteps name (iterated st c over) (iterated su d over)
+    same_iterated over = same_next name _ _ _ _ (same_tests over) (λ v. same_next name _ _ _ _ (same_acting name _ _ (same_items_of name v)) (λ items. same_going name (v, items)))
+
+    same_repeated : (at : ℕ) (targets : List Expr) (p : Course C Flow) (q : Course D Flow) → SameSteps name p q → (over : Value × List Value) → SameSteps name (repeated st c at targets p over) (repeated su d at targets q over)
+    unfolding repeated
+    same_repeated at targets p q h over =
+        same_locking name (lock_of over.0) _ _ (same_for_turns _ _ p q (λ x. same_located name at _ _ (same_next_item name _ _ (each_meant targets) x)) h over.1)
+
+    defaults_same : (ns : List (Named Expr)) → Each (Alike name) (map (λ n. meant st c n.value) ns) (map (λ n. meant su d n.value) ns)
+    defaults_same [] = tt
+    defaults_same (n ∷ ns) = (same_of n.value, defaults_same ns)
+
+    abbrev defined_by : {X : Type 0} → Setting X → Callee X → List ℕ → List (Named Expr) → ℕ → Work X (Unit {0})
+    defined_by sx x n ns number = values (map (λ o. meant sx x o.value) ns) >>= (λ vs. acting (new_function sx.cell number vs) >>= bind n)
+
+    same_defined : (x : Definition (Doing C)) (y : Definition (Doing D)) (number : ℕ) → y.name ≡ x.name → y.defaults ≡ x.defaults → SameSteps name (defined st c x number) (defined su d y number)
+    unfolding defined
+    same_defined x y number h k =
+        subst (λ n. SameSteps name (defined_by st c x.name x.defaults number) (defined_by su d n y.defaults number)) (sym h)
+        (subst (λ ns. SameSteps name (defined_by st c x.name x.defaults number) (defined_by su d x.name ns number)) (sym k)
+        (subst (λ cell. SameSteps name (defined_by st c x.name x.defaults number) (values (map (λ n. meant su d n.value) x.defaults) >>= (λ vs. acting (new_function cell number vs) >>= bind x.name))) (sym same_st.cell)
+        (same_next name _ _ _ _ (same_values name _ _ (defaults_same x.defaults)) (λ vs. same_next name _ _ _ _ (same_acting name _ _ (same_new_function name st.cell number vs)) (same_bind name x.name)))))
+
+    -- ---- trees of statements
+
+    -- a statement, with what is shown of it
+    abbrev Shown : Type 0
+    Shown = (s : Statement) × SameDoing (statement_of st c s) (statement_of su d s)
+
+    abbrev lower : Statement-F Shown → Statement-F (Doing C)
+    lower y = map-Statement Statement (Doing C) (statement_of st c) (map-Statement Shown Statement (λ s. s.0) y)
+
+    abbrev upper : Statement-F Shown → Statement-F (Doing D)
+    upper y = map-Statement Statement (Doing D) (statement_of su d) (map-Statement Shown Statement (λ s. s.0) y)
+
+    all_shown : (ss : List Shown) → Each SameDoing (map (statement_of st c) (map (λ s. s.0) ss)) (map (statement_of su d) (map (λ s. s.0) ss))
+    all_shown [] = tt
+    all_shown (s ∷ ss) = (s.1, all_shown ss)
+
+    -- a body, as that of a loop over nothing
+    body_in : {X : Type 0} → Statement-F X → Block X
+    body_in (Statement-F.For at targets over body) = body
+    body_in _ = blocks.Inline (record { smalls = []; semicolon = false })
+
+    same_block_of : (b : Block Shown) → SameSteps name (block_of st c (body_in (lower (Statement-F.For 0 [] [] b)))) (block_of su d (body_in (upper (Statement-F.For 0 [] [] b))))
+    unfolding body_in
+    same_block_of (blocks.Inline line) = same_line_of false line
+    same_block_of (blocks.Indented ss) = same_block _ _ (all_shown ss)
+
+    branches_in : {X : Type 0} → Statement-F X → List (Branch X)
+    branches_in (Statement-F.If at first more other) = more
+    branches_in _ = []
+
+    else_in : {X : Type 0} → Statement-F X → Option (Block X)
+    else_in (Statement-F.If at first more other) = other
+    else_in _ = None
+
+    same_else_of : (at : ℕ) (first : Branch Shown) (more : List (Branch Shown)) (other : Option (Block Shown))
+        → SameSteps name (else_of st c (else_in (lower (Statement-F.If at first more other)))) (else_of su d (else_in (upper (Statement-F.If at first more other))))
+    unfolding else_in body_in
+    same_else_of at first more None = same_going name flow.On
+    same_else_of at first more (Some (blocks.Inline line)) = same_block_of (blocks.Inline line)
+    same_else_of at first more (Some (blocks.Indented ss)) = same_block_of (blocks.Indented ss)
+
+    same_branch : (at : ℕ) (e : Expr) (p x : Course C Flow) (q y : Course D Flow) → SameSteps name p q → SameSteps name x y
+        → SameSteps name (condition_of st c at e >>= (λ t. choose t p x)) (condition_of su d at e >>= (λ t. choose t q y))
+    same_branch at e p x q y h k = same_next name _ _ _ _ (same_condition at e) (λ t. same_choose name t p x q y h k)
+
+    same_branches : (at : ℕ) (first : Branch Shown) (more : List (Branch Shown)) (p : Option (Block (Doing C))) (q : Option (Block (Doing D))) → SameSteps name (else_of st c p) (else_of su d q)
+        → SameSteps name (branches_of st c at (branches_in (lower (Statement-F.If at first more None))) p) (branches_of su d at (branches_in (upper (Statement-F.If at first more None))) q)
+    unfolding branches_in body_in
+    same_branches at first [] p q h = h
+    same_branches at first (b ∷ more) p q h = same_branch at b.condition _ _ _ _ (same_block_of b.body) (same_branches at first more p q h)
+
+    layer_same : (y : Statement-F Shown) → SameDoing (layer_of st c (lower y)) (layer_of su d (upper y))
+    unfolding branches_in else_in body_in
+    layer_same (Statement-F.Line line) last number = same_line_of last line
+    layer_same (Statement-F.If at first more other) last number =
+        same_next name _ _ _ _ (same_located name at _ _ (same_acting name _ _ (same_charge name 1))) (λ _. same_branch at first.condition _ _ _ _ (same_block_of first.body)
+        (same_branches at first more _ _ (same_else_of at first more other)))
+    layer_same (Statement-F.For at targets over body) last number =
+        same_next name _ _ _ _ (same_located name at _ _ (same_next name _ _ _ _ (same_acting name _ _ (same_charge name 1)) (λ _. same_iterated over))) (same_repeated at targets _ _ (same_block_of body))
+    layer_same (Statement-F.Def at def) last number =
+        same_located name at _ _ (same_then_on _ _ (same_next name _ _ _ _ (same_acting name _ _ (same_charge name 1)) (λ _. same_defined _ _ number refl refl)))
+
+    rolled_same : (x : Statement-F Statement) → SameDoing (layer_of st c (map-Statement Statement (Doing C) (statement_of st c) x)) (layer_of su d (map-Statement Statement (Doing D) (statement_of su d) x))
+        → SameDoing (statement_of st c (roll-Statement x)) (statement_of su d (roll-Statement x))
+    unfolding statement_of
+    rolled_same x h =
+        subst (λ m. SameDoing m (statement_of su d (roll-Statement x))) (sym (fold-roll-Statement (Doing C) (layer_of st c) x))
+        (subst (λ n. SameDoing (layer_of st c (map-Statement Statement (Doing C) (statement_of st c) x)) n) (sym (fold-roll-Statement (Doing D) (layer_of su d) x)) h)
+
+    -- each statement does the same whatever the names of cells
+    pub same_statement : (s : Statement) → SameDoing (statement_of st c s) (statement_of su d s)
+    same_statement =
+        ind-Statement (λ s. SameDoing (statement_of st c s) (statement_of su d s)) (λ x y is. subst (λ z. SameDoing (statement_of st c (roll-Statement z)) (statement_of su d (roll-Statement z))) is (rolled_same _ (layer_same y)))
+
+    same_body : (b : Block Statement) → SameSteps name (body_of st c b) (body_of su d b)
+    same_body (blocks.Inline line) = same_line_of false line
+    same_body (blocks.Indented ss) = same_in_order _ _ (λ last s. same_statement s false 0) false ss
+
+    -- ---- calls of functions
+
+    same_run_body : (def : Definition Statement) (id : ℕ) (all : List Filled) → SameSteps name (run_body st c def id all) (run_body su d def id all)
+    unfolding run_body
+    same_run_body def id all =
+        same_next name _ _ _ _ (same_acting name _ _ (same_charge name (sum (map default_weight all)))) (λ _. same_in_function name id (local_block def all) _ _ (same_result_of _ _ (same_body def.body)))
+
+    same_run_filled : (def : Definition Statement) (id : ℕ) (o : Option (List Filled)) → SameSteps name (run_filled st c def id o) (run_filled su d def id o)
+    same_run_filled def id None = same_failing name failure.WrongArguments
+    same_run_filled def id (Some all) = same_run_body def id all
+
+    same_run_defined : (id : ℕ) (defaults : List Value) (o : Option (Definition Statement)) (vs : List Value) (n : ByName) → SameSteps name (run_defined st c id defaults o vs n) (run_defined su d id defaults o vs n)
+    same_run_defined id defaults None vs n = same_failing name failure.WrongType
+    same_run_defined id defaults (Some def) vs n = same_run_filled def id (filled (parameters_of def defaults) vs n)
+
+    same_run_function : (id : ℕ) (o : Option (Object C)) (vs : List Value) (n : ByName)
+        → SameSteps name (run_function st c id (parts_of o) vs n) (run_function su d id (parts_of (option_map (renamed name) o)) vs n)
+    same_run_function id None vs n = same_failing name failure.WrongType
+    same_run_function id (Some (AList items)) vs n = same_failing name failure.WrongType
+    same_run_function id (Some (ADict pairs)) vs n = same_failing name failure.WrongType
+    same_run_function id (Some (AFunction cell number defaults)) vs n =
+        subst (λ o. SameSteps name (run_defined st c id defaults (st.define cell number) vs n) (run_defined su d id defaults o vs n)) (sym (same_st.define cell number))
+        (same_run_defined id defaults (st.define cell number) vs n)
+
+  -- calls of functions do the same whatever the names of cells, while so many more may become active
+  pub same_call_to : (st : Setting C) (su : Setting D) → SameSetting name st su → (n : ℕ) → SameCallee name (call_to st n) (call_to su n)
+  unfolding call_to function object
+  same_call_to st su h zero id vs by = same_failing name failure.TooManyCalls
+  same_call_to st su h (suc n) id vs by = record {
+    holds = λ w. ap (λ o. run_function su (call_to su n) id (parts_of o) vs by (world_as name w)) (get_same name w.store.state.objects id)
+        ∙ (same_run_function st su h (call_to st n) (call_to su n) (same_call_to st su h n) id (slice_get w.store.state.objects id) vs by).holds w;
+  }
