@@ -12,4 +12,5 @@ pub mod RenamedWorld
 pub mod RenamedExpressions
 pub mod RenamedForms
 pub mod RenamedStatements
+pub mod RenamedCells
 pub mod Sequences

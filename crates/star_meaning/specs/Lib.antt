@@ -14,4 +14,5 @@ pub mod Trees
 pub mod Rows
 pub mod Validity
 pub mod Renaming
+pub mod Laws
 pub mod Agreement

@@ -6,6 +6,7 @@
 #![tactic(auto)]
 
 pub mod flow;
+pub mod laws;
 pub mod ran;
 pub mod tables;
 
