@@ -16,13 +16,13 @@ use Rattle.star_meaning.specs.Steps.{Action, ◌>>=◌, ◌>>◌, pure, fail, gi
 use Rattle.star_meaning.specs.Values.{charge_items, items_of, new_dict, in_range, integer, is_empty, is_true, is_zero, key_values, bool_in, int_in, text_in, new_list, type_name}
 use Rattle.star_meaning.specs.Showing.{Naming, made, made_between, quoted, shown, ◌<+>◌}
 use Rattle.star_meaning.specs.Builtins.{ByName, absolute, all_items, are_alike, as_int, as_int_or, as_text, as_value, backwards, best, best_argument, best_item, call_builtin, check, copied_pairs, count_at, dict_from, dict_of, enumerate, extreme, in_order, int_of, int_of_text, is_before, is_print, last_number, len, list_of, list_of_tuples, new_range, numbered, only_named, pair_at, pairs_from, printed, range, range_of, read_int, result_of, reversed, rows_of, separator, silent, sorted, tested, truth, tuple_of, tuples, two_of, unnamed, walk_alike, walk_first, walk_tuple, with_one, with_one_or_two, with_optional, writing, zip}
-use Rattle.star_meaning.specs.Renaming.{state_as, Same}
+use Rattle.star_meaning.specs.Renaming.{Names, state_as, Same}
 use Rattle.star_meaning.proofs.Renamed.{same_then, same_pure, same_fail, same_given_or, same_charge, same_read, list_as, dict_as}
 use Rattle.star_meaning.proofs.RenamedComparing.{same_if_then, same_key_in, same_list, same_dict}
 use Rattle.star_meaning.proofs.RenamedShowing.{is_true_as, same_check_depth, same_items_of, same_joined, same_made, same_made_between, same_new_dict, same_new_list, same_new_tuple, same_quoted, same_shown}
 use Rattle.star_meaning.proofs.RenamedOperators.{same_charged_list, same_integer}
 
-module _ {C D : Type 0} (name : C → D) where
+module _ {C D : Type 0} (name : Names C D) where
   -- ---- arguments
 
   same_check : (e : Failure) (b : Bool) → Same name (check e b) (check e b)
@@ -74,8 +74,8 @@ module _ {C D : Type 0} (name : C → D) where
   same_count_at (Value-F.Text points) = same_pure name _
   same_count_at (Value-F.Tuple items) = same_pure name _
   same_count_at (Value-F.Range r) = same_pure name _
-  same_count_at (Value-F.List id) = same_read name _ _ (λ s. ap (λ xs. length xs) (list_as name s id))
-  same_count_at (Value-F.Dict id) = same_read name _ _ (λ s. ap (λ xs. length xs) (dict_as name s id))
+  same_count_at (Value-F.List id) = same_read name _ _ (λ s. ap (λ xs. length xs) (list_as name.to s id))
+  same_count_at (Value-F.Dict id) = same_read name _ _ (λ s. ap (λ xs. length xs) (dict_as name.to s id))
   same_count_at _ = same_fail name _
 
   same_len : (v : Value) → Same name (len v) (len v)
@@ -134,13 +134,13 @@ module _ {C D : Type 0} (name : C → D) where
   same_reversed : (v : Value) → Same name (reversed v) (reversed v)
   same_reversed v = same_then name _ _ _ _ (same_items_of name v) (λ items. same_charged_list name (reverse items))
 
-  all_as : (s : State C) (xs : List Value) → list_all (is_true (state_as name s)) xs ≡ list_all (is_true s) xs
+  all_as : (s : State C) (xs : List Value) → list_all (is_true (state_as name.to s)) xs ≡ list_all (is_true s) xs
   all_as s xs = ap (λ f. list_all f xs) (λ i v. is_true_as name s v i)
 
-  any_as : (s : State C) (xs : List Value) → list_any (is_true (state_as name s)) xs ≡ list_any (is_true s) xs
+  any_as : (s : State C) (xs : List Value) → list_any (is_true (state_as name.to s)) xs ≡ list_any (is_true s) xs
   any_as s xs = ap (λ f. list_any f xs) (λ i v. is_true_as name s v i)
 
-  same_tested : (f : (Value → Bool) → List Value → Bool) → ((s : State C) (xs : List Value) → f (is_true (state_as name s)) xs ≡ f (is_true s) xs) → (v : Value) → Same name (tested f v) (tested f v)
+  same_tested : (f : (Value → Bool) → List Value → Bool) → ((s : State C) (xs : List Value) → f (is_true (state_as name.to s)) xs ≡ f (is_true s) xs) → (v : Value) → Same name (tested f v) (tested f v)
   same_tested f h v = same_then name _ _ _ _ (same_items_of name v) (λ items. same_then name _ _ _ _ (same_charge name _) (λ _. same_read name _ _ (λ s. ap value.Bool (h s items))))
 
   same_two_of : (xs : List Value) → Same name (two_of xs) (two_of xs)
@@ -239,7 +239,7 @@ module _ {C D : Type 0} (name : C → D) where
   same_extreme f (v ∷ []) = same_then name _ _ _ _ (same_items_of name v) (same_best_item f)
   same_extreme f (x ∷ y ∷ more) = same_best_argument f x (y ∷ more)
 
-  module _ (nc : Naming C) (nd : Naming D) (hn : (c : C) (n : ℕ) → nd (name c) n ≡ nc c n) where
+  module _ (nc : Naming C) (nd : Naming D) (hn : (c : C) (n : ℕ) → nd (name.to c) n ≡ nc c n) where
     same_printed : (vs : List Value) (n : ByName) → Same name (printed nc vs n) (printed nd vs n)
     same_printed vs n =
         same_then name _ _ _ _ (same_given_or name failure.WrongArguments (only_named (codes "sep") n)) (λ by. same_then name _ _ _ _ (same_separator by) (λ sep.

@@ -13,10 +13,10 @@ use Rattle.star_meaning.specs.State.{State, list, dict, dict_get}
 use Rattle.star_meaning.specs.Steps.{Store, Action, ◌>>=◌, ◌>>◌, pure, fail, given_or, charge, read, change}
 use Rattle.star_meaning.specs.Values.{charge_weight, items_at, items_in, items_of, key_values, truth_at, is_true, is_empty}
 use Rattle.star_meaning.specs.Comparing.{Verdict, Same as Equal, Before, After, Apart, Test, onward, walk, walk_lists, same_value, walk_found, walk_pairs, walk_dicts, deeper, look, own_part, compared, equal, is_same, ordered_as, are_ordered, in_order, search_from, search_in, stop_or, within_list, key_in, within_dict, within_text, within_at, within, negated, compare}
-use Rattle.star_meaning.specs.Renaming.{state_as, Same}
-use Rattle.star_meaning.proofs.Renamed.{sames, same_then, same_pure, same_fail, same_given_or, same_charge, same_read, list_as, dict_as}
+use Rattle.star_meaning.specs.Renaming.{Names, state_as, Same}
+use Rattle.star_meaning.proofs.Renamed.{same_then, same_pure, same_fail, same_given_or, same_charge, same_read, list_as, dict_as}
 
-module _ {C D : Type 0} (name : C → D) where
+module _ {C D : Type 0} (name : Names C D) where
   pub same_if_then : {A : Type 0} (b : Bool) (p x : Action C A) (q y : Action D A) → Same name p q → Same name x y → Same name (if b then p else x) (if b then q else y)
   same_if_then true p x q y h k = h
   same_if_then false p x q y h k = k
@@ -69,10 +69,10 @@ module _ {C D : Type 0} (name : C → D) where
   same_deeper (Some t) None f g h k = absurd h
 
   pub same_list : (id : ℕ) → Same name (read (λ s. list s id)) (read (λ s. list s id))
-  same_list id = same_read name _ _ (λ s. list_as name s id)
+  same_list id = same_read name _ _ (λ s. list_as name.to s id)
 
   pub same_dict : (id : ℕ) → Same name (read (λ s. dict s id)) (read (λ s. dict s id))
-  same_dict id = same_read name _ _ (λ s. dict_as name s id)
+  same_dict id = same_read name _ _ (λ s. dict_as name.to s id)
 
   same_look : (l : Bool) (i : Option (Test C)) (j : Option (Test D)) → Inner i j → (x y : Value-F Value) → Same name (look l i x y) (look l j x y)
   same_look l i j h Value-F.None Value-F.None = same_pure name _
@@ -127,7 +127,7 @@ module _ {C D : Type 0} (name : C → D) where
   same_key_in x = same_given_or name _ _
 
   same_within_dict : (x : Value) (id : ℕ) → Same name (within_dict x id) (within_dict x id)
-  same_within_dict x id = same_then name _ _ _ _ (same_key_in x) (λ k. same_then name _ _ _ _ (same_charge name _) (λ _. same_read name _ _ (λ s. ap (λ ps. is_some (dict_get ps k)) (dict_as name s id))))
+  same_within_dict x id = same_then name _ _ _ _ (same_key_in x) (λ k. same_then name _ _ _ _ (same_charge name _) (λ _. same_read name _ _ (λ s. ap (λ ps. is_some (dict_get ps k)) (dict_as name.to s id))))
 
   same_within_text : (a b : List ℕ) → Same name (within_text a b) (within_text a b)
   same_within_text a b = same_then name _ _ _ _ (same_charge name _) (λ _. same_pure name _)

@@ -32,7 +32,9 @@ use Rattle.star_meaning.specs.Operators.{Bounds, unpacked}
 use Rattle.star_meaning.specs.Builtins.{ByName}
 use Rattle.star_meaning.specs.World.{Work, World, acting, bind, distinct, has, in_block, lock_of, locking, look_up, operate, operation, seen, turns, unbound}
 use Rattle.star_meaning.specs.Expressions.{item_value, Callee, Meant, Setting, call_function, call_written, called, called_at, chained, choose, clause_names, clauses_from, compared, comprehension, dict_turn, display_pairs, input_value, linked, list_turn, loop_over, method_called, name_of, named_from, named_values, naming, new_items, new_key, next_item, optional_value, read_input, signed, step_value, store_at, store_each, store_in, store_items, suffix_value, suffixed, tests_value, truth, values, values_from}
-use Rattle.star_meaning.specs.Renaming.{state_as, world_as, outcome_as, Same, SameSteps, SameSetting, SameCallee, SameMeant}
+use Rattle.star_meaning.specs.Renaming.{Names, state_as, world_as, outcome_as, reached, Same, SameSteps, SameSetting, SameCallee, SameMeant}
+use Rattle.star_meaning.specs.Growing.{Grown}
+use Rattle.star_meaning.proofs.GrownLemmas.{grown_same}
 use Rattle.star_meaning.proofs.Renamed.{same_then, same_pure, same_fail, same_given_or, same_charge}
 use Rattle.star_meaning.proofs.RenamedComparing.{same_if_then, same_compare, same_key_in}
 use Rattle.star_meaning.proofs.RenamedShowing.{is_true_as, same_items_of, same_new_dict, same_new_list, same_new_tuple}
@@ -61,7 +63,7 @@ Both R (Some x) (Some y) = R x y
 Both R None (Some y) = ⊥
 Both R (Some x) None = ⊥
 
-module _ {C D : Type 0} (name : C → D) where
+module _ {C D : Type 0} (name : Names C D) where
   abbrev pub Alike : Meant C → Meant D → Type 0
   Alike m n = SameMeant name m n
 
@@ -241,19 +243,22 @@ module _ {C D : Type 0} (name : C → D) where
   same_input_value (input.List items) = same_new_items (map item_value items)
 
   pub same_call_function : (c : Callee C) (d : Callee D) → SameCallee name c d → (id : ℕ) (vs : List Value) (n : ByName) → SameSteps name (call_function c id vs n) (call_function d id vs n)
-  same_call_function c d h id vs n = record { holds = λ w. called_or (has w.frame.active id) w }
+  same_call_function c d h id vs n = record { holds = λ w. called_or (has w.frame.active id) w; keeps = λ w. kept_or (has w.frame.active id) w }
     where
-      called_or : (b : Bool) (w : World C) → (if b then fail failure.Recursion (world_as name w) else d id vs n (world_as name w)) ≡ outcome_as (world_as name) (if b then fail failure.Recursion w else c id vs n w)
+      called_or : (b : Bool) (w : World C) → (if b then fail failure.Recursion (world_as name.to w) else d id vs n (world_as name.to w)) ≡ outcome_as (world_as name.to) (if b then fail failure.Recursion w else c id vs n w)
       called_or true w = refl
       called_or false w = (h id vs n).holds w
+      kept_or : (b : Bool) (w : World C) → Grown name.here w.store.state.objects (reached (if b then fail failure.Recursion w else c id vs n w)).store.state.objects
+      kept_or true w = grown_same name.here w.store.state.objects
+      kept_or false w = (h id vs n).keeps w
 
   pub same_method_called : (n : List ℕ) (x : Value) (vs : List Value) (by : ByName) → SameSteps name (method_called n x vs by) (method_called n x vs by)
   unfolding method_called
-  same_method_called n x vs by = record { holds = λ w. (same_operate name _ _ (same_call_method name w.frame.locked n x vs by)).holds w }
+  same_method_called n x vs by = record { holds = λ w. (same_operate name _ _ (same_call_method name w.frame.locked n x vs by)).holds w; keeps = λ w. (same_operate name _ _ (same_call_method name w.frame.locked n x vs by)).keeps w }
 
   pub same_store_at : (x at v : Value) → SameSteps name (store_at x at v) (store_at x at v)
   unfolding store_at
-  same_store_at x at v = record { holds = λ w. (same_acting name _ _ (same_store name w.frame.locked x at v)).holds w }
+  same_store_at x at v = record { holds = λ w. (same_acting name _ _ (same_store name w.frame.locked x at v)).holds w; keeps = λ w. (same_acting name _ _ (same_store name w.frame.locked x at v)).keeps w }
 
   pub same_signed : (ss : List UnaryOp) (x : Value) → SameSteps name (signed ss x) (signed ss x)
   same_signed [] x = same_going name x

@@ -30,7 +30,7 @@ use Rattle.star_meaning.specs.Operators as operators
 use Rattle.star_meaning.specs.Builtins.{ByName, call_builtin}
 use Rattle.star_meaning.specs.World.{Work, World, acting, bind, look_up, operate, operation, write}
 use Rattle.star_meaning.specs.Expressions.{Callee, Meant, Setting, call_written, called, called_at, chained, choose, front, headed, input_name, input_value, layer_names, linked, literal_of, lone_literal, meant, name_of, named_values, names_input, naming, parts, place, read_input, step, store_at, store_step, suffix_value, suffixed, turned, update_step, value_step, without_first}
-use Rattle.star_meaning.specs.Renaming.{Same, SameSteps, SameSetting, SameCallee, SameMeant}
+use Rattle.star_meaning.specs.Renaming.{Names, Same, SameSteps, SameSetting, SameCallee, SameMeant}
 use Rattle.star_meaning.proofs.Renamed.{same_then, same_given_or, same_charge}
 use Rattle.star_meaning.proofs.RenamedShowing.{same_new_dict, same_new_list, same_new_tuple}
 use Rattle.star_meaning.proofs.RenamedOperators.{same_binary, same_index, same_slice}
@@ -38,8 +38,8 @@ use Rattle.star_meaning.proofs.RenamedBuiltins.{same_call_builtin}
 use Rattle.star_meaning.proofs.RenamedWorld.{same_acting, same_bind, same_failing, same_going, same_look_up, same_next, same_operate, same_operation, same_write}
 use Rattle.star_meaning.proofs.RenamedExpressions.{Each, Both, AlikeNamed, AlikePair, AlikeClause, Alike, same_call_function, same_choose, same_compared, same_comprehension, same_dict_turn, same_display_pairs, same_input_value, same_list_turn, same_method_called, same_named_from, same_optional_value, same_signed, same_step_value, same_store_at, same_store_items, same_truth, same_values}
 
-module _ {C D : Type 0} (name : C → D) (st : Setting C) (su : Setting D) (same_st : SameSetting name st su) (c : Callee C) (d : Callee D) (same_callee : SameCallee name c d) where
-  pub naming_as : (x : C) (n : ℕ) → naming su (name x) n ≡ naming st x n
+module _ {C D : Type 0} (name : Names C D) (st : Setting C) (su : Setting D) (same_st : SameSetting name st su) (c : Callee C) (d : Callee D) (same_callee : SameCallee name c d) where
+  pub naming_as : (x : C) (n : ℕ) → naming su (name.to x) n ≡ naming st x n
   naming_as x n = ap name_of (same_st.define x n)
 
   same_read_input : (n : List ℕ) → SameSteps name (read_input st n) (read_input su n)

@@ -15,14 +15,14 @@ use Rattle.star_meaning.specs.Steps.{Action, ◌>>=◌, ◌>>◌, pure, fail, gi
 use Rattle.star_meaning.specs.Values.{is_empty, key_values, named_in, place_of}
 use Rattle.star_meaning.specs.Builtins.{ByName, unnamed}
 use Rattle.star_meaning.specs.Methods.{ObjectMethod, TextMethod, append, as_set, call_method, change_list, clear_dict, clear_list, dict_at, dict_methods, extend_by, find, found_or, get, index_of, insert_in, insert_place, items_of_dict, join, keys_of, list_methods, method_at, not_empty, or_none, or_other, or_zero, pair_rows, pair_values, pieces, place_in, pop_item, pop_key, put_all, put_if_absent, remove_item, replace, set_default, split, split_by, strip_ends, tested_with, text_methods, update, values_of, walk_texts, with_none, with_two}
-use Rattle.star_meaning.specs.Renaming.{state_as, Same}
+use Rattle.star_meaning.specs.Renaming.{Names, state_as, Same}
 use Rattle.star_meaning.proofs.Renamed.{same_then, same_pure, same_fail, same_given_or, same_charge, same_read, list_as, dict_as}
 use Rattle.star_meaning.proofs.RenamedComparing.{same_if_then, same_key_in, same_list, same_dict, same_search_in}
 use Rattle.star_meaning.proofs.RenamedShowing.{same_items_of}
 use Rattle.star_meaning.proofs.RenamedOperators.{same_charged_list, same_check_unlocked, same_dict_change, same_extend, same_item_at, same_list_change}
 use Rattle.star_meaning.proofs.RenamedBuiltins.{same_as_int, same_as_int_or, same_as_text, same_list_of_tuples, same_unnamed, same_with_one, same_with_one_or_two, same_with_optional}
 
-module _ {C D : Type 0} (name : C → D) where
+module _ {C D : Type 0} (name : Names C D) where
   same_with_none : {A : Type 0} (p : Action C A) (q : Action D A) → Same name p q → (vs : List Value) → Same name (with_none p vs) (with_none q vs)
   same_with_none p q h [] = h
   same_with_none p q h (x ∷ vs) = same_fail name _
@@ -70,12 +70,12 @@ module _ {C D : Type 0} (name : C → D) where
   -- ---- dicts
 
   same_lookup : (id : ℕ) (key : Key) → Same name (read (λ s. dict_get (dict s id) key)) (read (λ s. dict_get (dict s id) key))
-  same_lookup id key = same_read name _ _ (λ s. ap (λ pairs. dict_get pairs key) (dict_as name s id))
+  same_lookup id key = same_read name _ _ (λ s. ap (λ pairs. dict_get pairs key) (dict_as name.to s id))
 
   same_get : SameMethod get get
   same_get locked id vs =
       same_with_one_or_two name _ _ (λ k d. same_then name _ _ _ _ (same_key_in name k) (λ key. same_then name _ _ _ _ (same_charge name (weight k)) (λ _.
-      same_read name (λ s. or_other (dict_get (dict s id) key) (or_none d)) (λ s. or_other (dict_get (dict s id) key) (or_none d)) (λ s. ap (λ pairs. or_other (dict_get pairs key) (or_none d)) (dict_as name s id))))) vs
+      same_read name (λ s. or_other (dict_get (dict s id) key) (or_none d)) (λ s. or_other (dict_get (dict s id) key) (or_none d)) (λ s. ap (λ pairs. or_other (dict_get pairs key) (or_none d)) (dict_as name.to s id))))) vs
 
   same_found_or : (o d : Option Value) → Same name (found_or o d) (found_or o d)
   same_found_or (Some v) d = same_pure name v
@@ -96,13 +96,13 @@ module _ {C D : Type 0} (name : C → D) where
       same_then name _ _ _ _ (same_lookup id key) (λ found. same_put_if_absent id key found (or_none d)))))) vs
 
   same_keys_of : SameMethod keys_of keys_of
-  same_keys_of locked id vs = same_with_none _ _ (same_then name _ _ _ _ (same_read name (λ s. key_values (dict s id)) (λ s. key_values (dict s id)) (λ s. ap key_values (dict_as name s id))) (same_charged_list name)) vs
+  same_keys_of locked id vs = same_with_none _ _ (same_then name _ _ _ _ (same_read name (λ s. key_values (dict s id)) (λ s. key_values (dict s id)) (λ s. ap key_values (dict_as name.to s id))) (same_charged_list name)) vs
 
   same_values_of : SameMethod values_of values_of
-  same_values_of locked id vs = same_with_none _ _ (same_then name _ _ _ _ (same_read name (λ s. pair_values (dict s id)) (λ s. pair_values (dict s id)) (λ s. ap pair_values (dict_as name s id))) (same_charged_list name)) vs
+  same_values_of locked id vs = same_with_none _ _ (same_then name _ _ _ _ (same_read name (λ s. pair_values (dict s id)) (λ s. pair_values (dict s id)) (λ s. ap pair_values (dict_as name.to s id))) (same_charged_list name)) vs
 
   same_items_of_dict : SameMethod items_of_dict items_of_dict
-  same_items_of_dict locked id vs = same_with_none _ _ (same_then name _ _ _ _ (same_read name (λ s. pair_rows (dict s id)) (λ s. pair_rows (dict s id)) (λ s. ap pair_rows (dict_as name s id))) (same_list_of_tuples name)) vs
+  same_items_of_dict locked id vs = same_with_none _ _ (same_then name _ _ _ _ (same_read name (λ s. pair_rows (dict s id)) (λ s. pair_rows (dict s id)) (λ s. ap pair_rows (dict_as name.to s id))) (same_list_of_tuples name)) vs
 
   same_dict_at : (x : Value-F Value) → Same name (dict_at x) (dict_at x)
   same_dict_at (Value-F.Dict id) = same_dict name id

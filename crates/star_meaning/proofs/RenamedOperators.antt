@@ -21,12 +21,13 @@ use Rattle.star_meaning.specs.Steps.{Action, ◌>>=◌, ◌>>◌, pure, fail, gi
 use Rattle.star_meaning.specs.Values.{integer, times, floor_of, rest_of, is_zero, int_in, place_of, new_list}
 use Rattle.star_meaning.specs.Showing.{Naming}
 use Rattle.star_meaning.specs.Operators.{bound, or_int, add_at, added_in_place, augmented, binary, Bounds, charged_list, check_sliced, check_unlocked, decimals_fit, divided, extend, filled, formatted, formatted_parts, index, index_at, is_locked, is_sliced, item_at, joined_lists, modulo_at, multiply_at, on_ints, put_key, range_item_at, repeated_list, signed_int, slice, slice_at, stepped, store, store_at, store_item, store_key, taken, unary, unpacked, unpacked_at, value_at_key, values_for, values_taken}
-use Rattle.star_meaning.specs.Renaming.{state_as, Same}
+use Rattle.star_meaning.specs.Renaming.{Names, state_as, Same}
 use Rattle.star_meaning.proofs.Renamed.{same_then, same_pure, same_fail, same_given_or, same_charge, same_read, same_change, list_as, dict_as, with_list_as, with_dict_as}
+use Rattle.star_meaning.proofs.GrownLemmas.{grown_dict, grown_list}
 use Rattle.star_meaning.proofs.RenamedComparing.{same_if_then, same_key_in, same_list, same_dict}
 use Rattle.star_meaning.proofs.RenamedShowing.{same_items_of, same_joined, same_new_list, same_quoted, same_shown}
 
-module _ {C D : Type 0} (name : C → D) where
+module _ {C D : Type 0} (name : Names C D) where
   pub same_integer : (z : ℤ) → Same name (integer z) (integer z)
   same_integer z = same_given_or name _ _
 
@@ -76,7 +77,7 @@ module _ {C D : Type 0} (name : C → D) where
 
   same_value_at_key : (id : ℕ) (at : Value) → Same name (value_at_key id at) (value_at_key id at)
   same_value_at_key id at =
-      same_then name _ _ _ _ (same_key_in name at) (λ key. same_then name _ _ _ _ (same_then name _ _ _ _ (same_read name _ _ (λ s. ap (λ ps. dict_get ps key) (dict_as name s id))) (same_given_or name failure.NoKey))
+      same_then name _ _ _ _ (same_key_in name at) (λ key. same_then name _ _ _ _ (same_then name _ _ _ _ (same_read name _ _ (λ s. ap (λ ps. dict_get ps key) (dict_as name.to s id))) (same_given_or name failure.NoKey))
       (λ v. same_then name _ _ _ _ (same_charge name _) (λ _. same_pure name v)))
 
   same_index_at : (x : Value-F Value) (at : Value) (y : Value-F Value) → Same name (index_at x at y) (index_at x at y)
@@ -118,10 +119,12 @@ module _ {C D : Type 0} (name : C → D) where
 
   -- other items in a list, or other pairs in a dict, that are made of those there
   pub same_list_change : (id : ℕ) (by : List Value → List Value) → Same name (change (λ s. with_list s id (by (list s id)))) (change (λ s. with_list s id (by (list s id))))
-  same_list_change id by = same_change name _ _ (λ s. ap (λ items. with_list (state_as name s) id (by items)) (list_as name s id) ∙ with_list_as name s id (by (list s id)))
+  unfolding with_list
+  same_list_change id by = same_change name (λ s. with_list s id (by (list s id))) (λ s. with_list s id (by (list s id))) (λ s. ap (λ items. with_list (state_as name.to s) id (by items)) (list_as name.to s id) ∙ with_list_as name.to s id (by (list s id))) (λ s. grown_list name.here s.objects id (by (list s id)))
 
   pub same_dict_change : (id : ℕ) (by : List (Key × Value) → List (Key × Value)) → Same name (change (λ s. with_dict s id (by (dict s id)))) (change (λ s. with_dict s id (by (dict s id))))
-  same_dict_change id by = same_change name _ _ (λ s. ap (λ pairs. with_dict (state_as name s) id (by pairs)) (dict_as name s id) ∙ with_dict_as name s id (by (dict s id)))
+  unfolding with_dict
+  same_dict_change id by = same_change name (λ s. with_dict s id (by (dict s id))) (λ s. with_dict s id (by (dict s id))) (λ s. ap (λ pairs. with_dict (state_as name.to s) id (by pairs)) (dict_as name.to s id) ∙ with_dict_as name.to s id (by (dict s id))) (λ s. grown_dict name.here s.objects id (by (dict s id)))
 
   same_store_item : (locked : List ℕ) (id : ℕ) (z : ℤ) (v : Value) → Same name (store_item locked id z v) (store_item locked id z v)
   same_store_item locked id z v =
@@ -158,7 +161,7 @@ module _ {C D : Type 0} (name : C → D) where
   same_unpacked count v =
       same_then name _ _ _ _ (same_unpacked_at (out-Value v)) (λ items. same_then name _ _ _ _ (same_charge name _) (λ _. same_if_then name (length items == count) _ _ _ _ (same_pure name items) (same_fail name _)))
 
-  module _ (nc : Naming C) (nd : Naming D) (hn : (c : C) (n : ℕ) → nd (name c) n ≡ nc c n) where
+  module _ (nc : Naming C) (nd : Naming D) (hn : (c : C) (n : ℕ) → nd (name.to c) n ≡ nc c n) where
     same_filled : (ps : List Part) (vs : List Value) → Same name (filled nc ps vs) (filled nd ps vs)
     same_filled [] vs = same_pure name _
     same_filled (part.Plain text ∷ ps) [] = same_joined name _ _ _ _ (same_pure name text) (same_filled ps [])

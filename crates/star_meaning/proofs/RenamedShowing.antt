@@ -14,25 +14,26 @@ use Rattle.star_meaning.specs.Steps.{Outcome, Went, Store, Action, ◌>>=◌, �
 use Rattle.star_meaning.specs.Values.{charge_weight, check_depth, items_at, items_in, items_of, key_values, truth_at, is_true, is_empty, new_dict, new_function, new_list, new_tuple, text_in}
 use Rattle.star_meaning.specs.Showing.{Naming, Writing, made, ◌<+>◌, made_after, made_between, between, list_text, tuple_text, pair_text, dict_text, opened, function_name, function_text, quoted_at, quoted_in, quoted, shown_at, shown}
 use Rattle.star_meaning.specs.Validity.{renamed}
-use Rattle.star_meaning.specs.Renaming.{state_as, store_as, Same}
+use Rattle.star_meaning.specs.Renaming.{Names, state_as, store_as, Same}
 use Rattle.star_meaning.proofs.Renamed.{same_then, same_pure, same_fail, same_given_or, same_charge, same_read, same_change, list_as, dict_as, with_new_as, next_id_as, get_same}
+use Rattle.star_meaning.proofs.GrownLemmas.{grown_new}
 use Rattle.star_meaning.proofs.RenamedComparing.{same_if_then, same_list, same_dict}
 
-module _ {C D : Type 0} (name : C → D) where
+module _ {C D : Type 0} (name : Names C D) where
   -- ---- values
 
-  truth_as : (s : State C) (x : Value-F Value) → truth_at (state_as name s) x ≡ truth_at s x
-  truth_as s (Value-F.List id) = ap (λ items. not (is_empty items)) (list_as name s id)
-  truth_as s (Value-F.Dict id) = ap (λ pairs. not (is_empty pairs)) (dict_as name s id)
+  truth_as : (s : State C) (x : Value-F Value) → truth_at (state_as name.to s) x ≡ truth_at s x
+  truth_as s (Value-F.List id) = ap (λ items. not (is_empty items)) (list_as name.to s id)
+  truth_as s (Value-F.Dict id) = ap (λ pairs. not (is_empty pairs)) (dict_as name.to s id)
   truth_as s _ = refl
 
-  pub is_true_as : (s : State C) (v : Value) → is_true (state_as name s) v ≡ is_true s v
+  pub is_true_as : (s : State C) (v : Value) → is_true (state_as name.to s) v ≡ is_true s v
   unfolding is_true
   is_true_as s v = truth_as s (out-Value v)
 
-  items_as : (s : State C) (x : Value-F Value) → items_at (state_as name s) x ≡ items_at s x
-  items_as s (Value-F.List id) = ap Some (list_as name s id)
-  items_as s (Value-F.Dict id) = ap (λ pairs. Some (key_values pairs)) (dict_as name s id)
+  items_as : (s : State C) (x : Value-F Value) → items_at (state_as name.to s) x ≡ items_at s x
+  items_as s (Value-F.List id) = ap Some (list_as name.to s id)
+  items_as s (Value-F.Dict id) = ap (λ pairs. Some (key_values pairs)) (dict_as name.to s id)
   items_as s _ = refl
 
   pub same_items_of : (v : Value) → Same name (items_of v) (items_of v)
@@ -47,23 +48,25 @@ module _ {C D : Type 0} (name : C → D) where
   same_new_tuple items = same_then name _ _ _ _ (same_check_depth (value.Tuple items)) (λ _. same_pure name _)
 
   new_same : (make : ℕ → Value) (o : Object C) (s : Store C)
-      → ◌≡◌ {A = Outcome (Store D) Failure Value} (Went (make (next_id (state_as name s.state))) (record { state = with_new (state_as name s.state) (renamed name o); left = s.left }))
-          (Went (make (next_id s.state)) (store_as name (record { state = with_new s.state o; left = s.left })))
+      → ◌≡◌ {A = Outcome (Store D) Failure Value} (Went (make (next_id (state_as name.to s.state))) (record { state = with_new (state_as name.to s.state) (renamed name.to o); left = s.left }))
+          (Went (make (next_id s.state)) (store_as name.to (record { state = with_new s.state o; left = s.left })))
   new_same make o s =
-      ap (λ id. Went (make id) (record { state = with_new (state_as name s.state) (renamed name o); left = s.left })) (next_id_as name s.state)
-      ∙ ap (λ t. Went (make (next_id s.state)) (record { state = t; left = s.left })) (with_new_as name s.state o)
+      ap (λ id. Went (make id) (record { state = with_new (state_as name.to s.state) (renamed name.to o); left = s.left })) (next_id_as name.to s.state)
+      ∙ ap (λ t. Went (make (next_id s.state)) (record { state = t; left = s.left })) (with_new_as name.to s.state o)
 
   pub same_new_list : (items : List Value) → Same name (new_list items) (new_list items)
-  unfolding new_list
-  same_new_list items = record { holds = new_same value.List (AList items) }
+  unfolding new_list with_new
+  same_new_list items = record { holds = new_same value.List (AList items); keeps = λ s. grown_new name.here s.state.objects (AList items) tt }
 
   pub same_new_dict : (pairs : List (Key × Value)) → Same name (new_dict pairs) (new_dict pairs)
-  unfolding new_dict
-  same_new_dict pairs = record { holds = new_same value.Dict (ADict pairs) }
+  unfolding new_dict with_new
+  same_new_dict pairs = record { holds = new_same value.Dict (ADict pairs); keeps = λ s. grown_new name.here s.state.objects (ADict pairs) tt }
 
-  pub same_new_function : (cell : C) (number : ℕ) (defaults : List Value) → Same name (new_function cell number defaults) (new_function (name cell) number defaults)
-  unfolding new_function
-  same_new_function cell number defaults = record { holds = new_same value.Function (AFunction cell number defaults) }
+  pub same_new_function : (number : ℕ) (defaults : List Value) → Same name (new_function name.here number defaults) (new_function (name.to name.here) number defaults)
+  unfolding new_function with_new
+  same_new_function number defaults = record {
+    holds = new_same value.Function (AFunction name.here number defaults); keeps = λ s. grown_new name.here s.state.objects (AFunction name.here number defaults) refl;
+  }
 
   -- ---- written forms
 
@@ -115,20 +118,20 @@ module _ {C D : Type 0} (name : C → D) where
   same_opened None (Some g) p q h k = absurd h
   same_opened (Some f) None p q h k = absurd h
 
-  module _ (nc : Naming C) (nd : Naming D) (hn : (c : C) (n : ℕ) → nd (name c) n ≡ nc c n) where
-    function_parts : (o : Option (Object C)) → function_name nd (parts_of (option_map (renamed name) o)) ≡ function_name nc (parts_of o)
+  module _ (nc : Naming C) (nd : Naming D) (hn : (c : C) (n : ℕ) → nd (name.to c) n ≡ nc c n) where
+    function_parts : (o : Option (Object C)) → function_name nd (parts_of (option_map (renamed name.to) o)) ≡ function_name nc (parts_of o)
     function_parts None = refl
     function_parts (Some (AList items)) = refl
     function_parts (Some (ADict pairs)) = refl
     function_parts (Some (AFunction cell number defaults)) = hn cell number
 
-    function_as : (s : State C) (id : ℕ) → function_name nd (function (state_as name s) id) ≡ function_name nc (function s id)
+    function_as : (s : State C) (id : ℕ) → function_name nd (function (state_as name.to s) id) ≡ function_name nc (function s id)
     unfolding function object
-    function_as s id = ap (λ o. function_name nd (parts_of o)) (get_same name s.objects id) ∙ function_parts (slice_get s.objects id)
+    function_as s id = ap (λ o. function_name nd (parts_of o)) (get_same name.to s.objects id) ∙ function_parts (slice_get s.objects id)
 
     -- what a function's object is read for alone is its name
     same_function : (id : ℕ) → Same name (read (λ s. function s id) >>= (λ parts. made (function_text (function_name nc parts)))) (read (λ s. function s id) >>= (λ parts. made (function_text (function_name nd parts))))
-    same_function id = record { holds = λ s. ap (λ n. made (function_text n) (store_as name s)) (function_as s.state id) ∙ (same_made (function_text (function_name nc (function s.state id)))).holds s }
+    same_function id = record { holds = λ s. ap (λ n. made (function_text n) (store_as name.to s)) (function_as s.state id) ∙ (same_made (function_text (function_name nc (function s.state id)))).holds s; keeps = λ s. (same_made (function_text (function_name nc (function s.state id)))).keeps s }
 
     same_quoted_at : (i : Option (Writing C)) (j : Option (Writing D)) → InnerWriting i j → (x : Value-F Value) → Same name (quoted_at nc i x) (quoted_at nd j x)
     same_quoted_at i j h Value-F.None = same_made _

@@ -32,7 +32,8 @@ use Rattle.star_meaning.specs.World.{World, Work, Fault, Course, located, acting
 use Rattle.star_meaning.specs.Expressions.{Setting, Callee, Meant, choose, meant, naming, next_item, store_in, tests_value, truth, values}
 use Rattle.star_meaning.specs.Statements.{Doing, Filled, after_turn, all_meant, block_of, body_of, branch_of, branches_of, call_to, condition_of, default_weight, defined, echo, echo_at, echo_if, else_of, ended, filled, for_turns, go_on, in_order, iterated, kind_of, layer_of, line_of, local_block, operator, parameters_of, repeated, result_of, returned, run_body, run_defined, run_filled, run_function, small_of, statement_of, then_on}
 use Rattle.star_meaning.specs.Validity.{renamed}
-use Rattle.star_meaning.specs.Renaming.{state_as, world_as, outcome_as, Same, SameSteps, SameSetting, SameCallee, SameMeant}
+use Rattle.star_meaning.specs.Renaming.{Names, state_as, world_as, outcome_as, reached, Same, SameSteps, SameSetting, SameCallee, SameMeant}
+use Rattle.star_meaning.specs.Growing.{Grown}
 use Rattle.star_meaning.proofs.Renamed.{same_charge, get_same}
 use Rattle.star_meaning.proofs.RenamedShowing.{same_items_of, same_joined, same_made, same_new_function, same_quoted}
 use Rattle.star_meaning.proofs.RenamedOperators.{same_augmented}
@@ -40,7 +41,14 @@ use Rattle.star_meaning.proofs.RenamedWorld.{same_acting, same_bind, same_failin
 use Rattle.star_meaning.proofs.RenamedExpressions.{Each, Alike, same_choose, same_next_item, same_store_in, same_tests_value, same_truth, same_values}
 use Rattle.star_meaning.proofs.RenamedForms.{naming_as, same_meant}
 
-module _ {C D : Type 0} (name : C → D) where
+grown_ended : {C : Type 0} (here : C) (os : List (Object C)) (o : Outcome (World C) Fault Flow) → Grown here os (reached o).store.state.objects → Grown here os (reached (ended o)).store.state.objects
+grown_ended here os (Went flow.On w) h = h
+grown_ended here os (Went flow.Break w) h = h
+grown_ended here os (Went flow.Continue w) h = h
+grown_ended here os (Went (flow.Return v) w) h = h
+grown_ended here os (Failed fault w) h = h
+
+module _ {C D : Type 0} (name : Names C D) where
   -- ---- one after another
 
   pub same_go_on : (p : Course C Flow) (q : Course D Flow) → SameSteps name p q → (f : Flow) → SameSteps name (go_on p f) (go_on q f)
@@ -75,7 +83,7 @@ module _ {C D : Type 0} (name : C → D) where
   same_block [] (q ∷ qs) h = absurd h
   same_block (p ∷ ps) [] h = absurd h
 
-  same_ended : (o : Outcome (World C) Fault Flow) → ended (outcome_as (world_as name) o) ≡ outcome_as (world_as name) (ended o)
+  same_ended : (o : Outcome (World C) Fault Flow) → ended (outcome_as (world_as name.to) o) ≡ outcome_as (world_as name.to) (ended o)
   same_ended (Went flow.On w) = refl
   same_ended (Went flow.Break w) = refl
   same_ended (Went flow.Continue w) = refl
@@ -83,7 +91,7 @@ module _ {C D : Type 0} (name : C → D) where
   same_ended (Failed fault w) = refl
 
   same_result_of : (p : Course C Flow) (q : Course D Flow) → SameSteps name p q → SameSteps name (result_of p) (result_of q)
-  same_result_of p q h = record { holds = λ w. ap ended (h.holds w) ∙ same_ended (p w) }
+  same_result_of p q h = record { holds = λ w. ap ended (h.holds w) ∙ same_ended (p w); keeps = λ w. grown_ended name.here w.store.state.objects (p w) (h.keeps w) }
 
   module _ (st : Setting C) (su : Setting D) (same_st : SameSetting name st su) (c : Callee C) (d : Callee D) (same_callee : SameCallee name c d) where
     same_of : (e : Expr) → SameMeant name (meant st c e) (meant su d e)
@@ -126,6 +134,7 @@ module _ {C D : Type 0} (name : C → D) where
     same_operator : (o : BinaryOp) (x y : Value) → SameSteps name (operator st c o x y) (operator su d o x y)
     same_operator o x y = record {
       holds = λ w. (same_operate name _ _ (same_augmented name (naming st) (naming su) (naming_as name st su same_st c d same_callee) w.frame.locked o x y)).holds w;
+      keeps = λ w. (same_operate name _ _ (same_augmented name (naming st) (naming su) (naming_as name st su same_st c d same_callee) w.frame.locked o x y)).keeps w;
     }
 
     same_then_on : {A : Type 0} (p : Work C A) (q : Work D A) → SameSteps name p q → SameSteps name (then_on st c p) (then_on su d q)
@@ -165,6 +174,9 @@ module _ {C D : Type 0} (name : C → D) where
     defaults_same [] = tt
     defaults_same (n ∷ ns) = (same_of n.value, defaults_same ns)
 
+    abbrev defined_in : {X : Type 0} → Setting X → Callee X → X → List ℕ → List (Named Expr) → ℕ → Work X (Unit {0})
+    defined_in sx x cell n ns number = values (map (λ o. meant sx x o.value) ns) >>= (λ vs. acting (new_function cell number vs) >>= bind n)
+
     abbrev defined_by : {X : Type 0} → Setting X → Callee X → List ℕ → List (Named Expr) → ℕ → Work X (Unit {0})
     defined_by sx x n ns number = values (map (λ o. meant sx x o.value) ns) >>= (λ vs. acting (new_function sx.cell number vs) >>= bind n)
 
@@ -173,8 +185,9 @@ module _ {C D : Type 0} (name : C → D) where
     same_defined x y number h k =
         subst (λ n. SameSteps name (defined_by st c x.name x.defaults number) (defined_by su d n y.defaults number)) (sym h)
         (subst (λ ns. SameSteps name (defined_by st c x.name x.defaults number) (defined_by su d x.name ns number)) (sym k)
-        (subst (λ cell. SameSteps name (defined_by st c x.name x.defaults number) (values (map (λ n. meant su d n.value) x.defaults) >>= (λ vs. acting (new_function cell number vs) >>= bind x.name))) (sym same_st.cell)
-        (same_next name _ _ _ _ (same_values name _ _ (defaults_same x.defaults)) (λ vs. same_next name _ _ _ _ (same_acting name _ _ (same_new_function name st.cell number vs)) (same_bind name x.name)))))
+        (subst (λ cell. SameSteps name (defined_in st c st.cell x.name x.defaults number) (defined_in su d cell x.name x.defaults number)) (sym same_st.cell)
+        (subst (λ cell. SameSteps name (defined_in st c cell x.name x.defaults number) (defined_in su d (name.to cell) x.name x.defaults number)) (sym same_st.here)
+        (same_next name _ _ _ _ (same_values name _ _ (defaults_same x.defaults)) (λ vs. same_next name _ _ _ _ (same_acting name _ _ (same_new_function name number vs)) (same_bind name x.name))))))
 
     -- ---- trees of statements
 
@@ -270,7 +283,7 @@ module _ {C D : Type 0} (name : C → D) where
     same_run_defined id defaults (Some def) vs n = same_run_filled def id (filled (parameters_of def defaults) vs n)
 
     same_run_function : (id : ℕ) (o : Option (Object C)) (vs : List Value) (n : ByName)
-        → SameSteps name (run_function st c id (parts_of o) vs n) (run_function su d id (parts_of (option_map (renamed name) o)) vs n)
+        → SameSteps name (run_function st c id (parts_of o) vs n) (run_function su d id (parts_of (option_map (renamed name.to) o)) vs n)
     same_run_function id None vs n = same_failing name failure.WrongType
     same_run_function id (Some (AList items)) vs n = same_failing name failure.WrongType
     same_run_function id (Some (ADict pairs)) vs n = same_failing name failure.WrongType
@@ -283,6 +296,7 @@ module _ {C D : Type 0} (name : C → D) where
   unfolding call_to function object
   same_call_to st su h zero id vs by = same_failing name failure.TooManyCalls
   same_call_to st su h (suc n) id vs by = record {
-    holds = λ w. ap (λ o. run_function su (call_to su n) id (parts_of o) vs by (world_as name w)) (get_same name w.store.state.objects id)
+    holds = λ w. ap (λ o. run_function su (call_to su n) id (parts_of o) vs by (world_as name.to w)) (get_same name.to w.store.state.objects id)
         ∙ (same_run_function st su h (call_to st n) (call_to su n) (same_call_to st su h n) id (slice_get w.store.state.objects id) vs by).holds w;
+    keeps = λ w. (same_run_function st su h (call_to st n) (call_to su n) (same_call_to st su h n) id (slice_get w.store.state.objects id) vs by).keeps w;
   }
