@@ -1,12 +1,12 @@
 -- Operations do the same in states that are alike but for the names of cells.
-use Rattle.std.proofs.Common.{◌≡◌, ℕ, zero, suc, List, [], ◌∷◌, ◌++◌, map, length, Bool, true, false, refl, sym, ap, ◌∙◌}
-use Rattle.std.specs.Prelude.{Option, Some, None, option_map, slice_get, slice_set, Result, Ok, Err, if◌then◌else◌}
+use Rattle.std.proofs.Common.{◌≡◌, ℕ, zero, suc, List, [], ◌∷◌, ◌++◌, map, length, refl, ap, ◌∙◌}
+use Rattle.std.specs.Prelude.{Option, Some, None, option_map, slice_get, slice_set, Result, Ok, Err}
 use Rattle.star_value.specs.declared.failure.Failure.{Failure}
 use Rattle.star_value.specs.declared.key.Key.{Key}
 use Rattle.star_value.specs.declared.value.Value.{Value}
 use Rattle.star_value.specs.Charge.{charged}
-use Rattle.star_meaning.specs.State.{Object, AList, ADict, AFunction, State, items_of, pairs_of, parts_of, object, list, dict, function, next_id, with_new, with_list, with_dict}
-use Rattle.star_meaning.specs.Steps.{Outcome, Went, Failed, Store, Action, and_then, paid, ◌>>=◌, ◌>>◌, pure, fail, given_or, charge, read, change}
+use Rattle.star_meaning.specs.State.{Object, AList, ADict, AFunction, State, items_of, pairs_of, object, list, dict, next_id, with_new, with_list, with_dict}
+use Rattle.star_meaning.specs.Steps.{Outcome, Went, Failed, Store, Action, and_then, paid, ◌>>=◌, pure, fail, given_or, charge, read, change}
 use Rattle.star_meaning.specs.Validity.{renamed}
 use Rattle.star_meaning.specs.Renaming.{Names, state_as, store_as, outcome_as, reached, Same}
 use Rattle.star_meaning.specs.Growing.{Grown}

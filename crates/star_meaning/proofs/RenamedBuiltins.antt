@@ -1,6 +1,6 @@
 -- The built-in functions do the same whatever the names of cells.
-use Rattle.std.proofs.Common.{◌≡◌, ℕ, ℤ, pos, zero, suc, ◌+◌, List, [], ◌∷◌, ◌++◌, map, length, reverse, Bool, true, false, refl, sym, ap, ◌∙◌}
-use Rattle.std.specs.Prelude.{Option, Some, None, option_map, ◌-◌, ◌==◌, not, if◌then◌else◌, codes, ◌+ℤ◌, unsigned_abs}
+use Rattle.std.proofs.Common.{◌≡◌, ℕ, ℤ, pos, List, [], ◌∷◌, length, reverse, Bool, true, false, ap}
+use Rattle.std.specs.Prelude.{Option, Some, None, if◌then◌else◌, codes, ◌+ℤ◌, unsigned_abs}
 use Rattle.std.specs.List.{list_all, list_any}
 use Rattle.star_value.specs.declared.builtin.Builtin.{Builtin}
 use Rattle.star_value.specs.declared.builtin.Builtin.TheVariants as builtin
@@ -10,12 +10,11 @@ use Rattle.star_value.specs.declared.key.Key.{Key}
 use Rattle.star_value.specs.declared.value.Value.{Value, out-Value}
 use Rattle.star_value.specs.declared.value.Value.TheOpen.{Value-F}
 use Rattle.star_value.specs.declared.value.Value.TheVariants as value
-use Rattle.star_value.specs.Ranges.{range_count}
-use Rattle.star_meaning.specs.State.{State, list, dict, dict_put}
-use Rattle.star_meaning.specs.Steps.{Action, ◌>>=◌, ◌>>◌, pure, fail, given_or, charge, read, change}
-use Rattle.star_meaning.specs.Values.{charge_items, items_of, new_dict, in_range, integer, is_empty, is_true, is_zero, key_values, bool_in, int_in, text_in, new_list, type_name}
-use Rattle.star_meaning.specs.Showing.{Naming, made, made_between, quoted, shown, ◌<+>◌}
-use Rattle.star_meaning.specs.Builtins.{ByName, absolute, all_items, are_alike, as_int, as_int_or, as_text, as_value, backwards, best, best_argument, best_item, call_builtin, check, copied_pairs, count_at, dict_from, dict_of, enumerate, extreme, in_order, int_of, int_of_text, is_before, is_print, last_number, len, list_of, list_of_tuples, new_range, numbered, only_named, pair_at, pairs_from, printed, range, range_of, read_int, result_of, reversed, rows_of, separator, silent, sorted, tested, truth, tuple_of, tuples, two_of, unnamed, walk_alike, walk_first, walk_tuple, with_one, with_one_or_two, with_optional, writing, zip}
+use Rattle.star_meaning.specs.State.{State, dict_put}
+use Rattle.star_meaning.specs.Steps.{Action, ◌>>=◌, pure}
+use Rattle.star_meaning.specs.Values.{items_of, new_dict, in_range, is_empty, is_true, is_zero, type_name}
+use Rattle.star_meaning.specs.Showing.{Naming, quoted, shown}
+use Rattle.star_meaning.specs.Builtins.{ByName, absolute, all_items, are_alike, as_int, as_int_or, as_text, as_value, backwards, best_argument, best_item, call_builtin, check, copied_pairs, count_at, dict_from, dict_of, enumerate, extreme, in_order, int_of, int_of_text, is_before, is_print, last_number, len, list_of, list_of_tuples, numbered, only_named, pair_at, pairs_from, printed, range, range_of, read_int, result_of, reversed, rows_of, separator, sorted, tested, truth, tuple_of, tuples, two_of, unnamed, walk_alike, walk_first, walk_tuple, with_one, with_one_or_two, with_optional, zip}
 use Rattle.star_meaning.specs.Renaming.{Names, state_as, Same}
 use Rattle.star_meaning.proofs.Renamed.{same_then, same_pure, same_fail, same_given_or, same_charge, same_read, list_as, dict_as}
 use Rattle.star_meaning.proofs.RenamedComparing.{same_if_then, same_key_in, same_list, same_dict}

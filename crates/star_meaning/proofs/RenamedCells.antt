@@ -1,14 +1,12 @@
 -- Cells do the same whatever the names of cells.
-use Rattle.std.proofs.Common.{◌≡◌, ℕ, zero, suc, ◌+◌, ◌-◌, List, [], ◌∷◌, ◌++◌, map, Bool, true, false, refl, sym, ap, subst, ◌∙◌}
-use Rattle.std.specs.Prelude.{Option, Some, None, option_and_then, slice_get}
+use Rattle.std.proofs.Common.{◌≡◌, ℕ, ◌+◌, ◌-◌, List, [], ◌∷◌, ◌++◌, map, refl, sym, ap, ◌∙◌}
+use Rattle.std.specs.Prelude.{Option, Some, None, option_and_then}
 use Rattle.chex_base.specs.declared.input.Input.{Input}
-use Rattle.star_syntax.specs.declared.cell.Cell.{Cell}
 use Rattle.star_syntax.specs.declared.cell.Program.{Program}
-use Rattle.star_syntax.specs.declared.statement.Definition.{Definition}
 use Rattle.star_syntax.specs.declared.statement.Module.{Module}
 use Rattle.star_syntax.specs.declared.statement.Statement.{Statement}
 use Rattle.star_syntax.specs.CellParts.{CellParts}
-use Rattle.star_syntax.specs.Cells.{functions_of, numbered}
+use Rattle.star_syntax.specs.Cells.{numbered}
 use Rattle.star_meaning.specs.declared.flow.Flow.{Flow}
 use Rattle.star_meaning.specs.declared.flow.Flow.TheVariants as flow
 use Rattle.star_meaning.specs.declared.ran.Ran.{Ran}
@@ -16,7 +14,7 @@ use Rattle.star_meaning.specs.State.{Object, AList, ADict, AFunction, State}
 use Rattle.star_meaning.specs.Steps.{Outcome, Went, Failed}
 use Rattle.star_meaning.specs.World.{Fault, World, start}
 use Rattle.star_meaning.specs.Expressions.{Callee, Setting}
-use Rattle.star_meaning.specs.Statements.{call_to, statement_of}
+use Rattle.star_meaning.specs.Statements.{call_to}
 use Rattle.star_meaning.specs.Cells.{Shown, function_in, is_def, ran, ran_of, run, shown_setting, statements_from}
 use Rattle.star_meaning.specs.Validity.{MachineState, after, number_or, numbered_from, ran_at, renamed, cell_of, cell_or_none, function_at, run_at, shown, numbered_setting}
 use Rattle.star_meaning.specs.Renaming.{Names, state_as, world_as, outcome_as, reached, SameSteps, SameSetting, SameCallee}
@@ -109,7 +107,7 @@ unfolding after
 after_by_numbers program m node inputs allowance =
     ap (λ (end : Ran × Shown). record { state = record { globals = end.1.globals; objects = numbered_from node m.state.objects end.1.objects }; ran = m.ran ++ node ∷ [] }) (ran_by_numbers program m node inputs allowance)
     ∙ ap (λ os. record { state = record { globals = (run_at program m node inputs allowance).1.globals; objects = os }; ran = m.ran ++ node ∷ [] })
-        (numbers_again node (cell_of program) m.state.objects (run_at program m node inputs allowance).1.objects (numbers_grow program m node inputs allowance))
+    (numbers_again node (cell_of program) m.state.objects (run_at program m node inputs allowance).1.objects (numbers_grow program m node inputs allowance))
 
 pub ran_at_by_numbers : (program : Program) (m : MachineState) (node : ℕ) (inputs : List (List ℕ × Input)) (allowance : ℕ) → ran_at program m node inputs allowance ≡ (run_at program m node inputs allowance).0
 unfolding ran_at

@@ -1,19 +1,16 @@
 -- Comparing does the same whatever the names of cells.
-use Rattle.std.proofs.Common.{◌≡◌, ℕ, zero, suc, ◌+◌, List, [], ◌∷◌, length, Bool, true, false, refl, sym, ap, ◌∙◌}
-use Rattle.std.specs.Prelude.{Option, Some, None, ◌==◌, not, ◌&&◌, if◌then◌else◌, is_some, ◌-◌}
+use Rattle.std.proofs.Common.{ℕ, zero, suc, ◌+◌, List, [], ◌∷◌, length, Bool, true, false, ap}
+use Rattle.std.specs.Prelude.{Option, Some, None, ◌==◌, not, ◌&&◌, if◌then◌else◌, is_some}
 use Rattle.star_syntax.specs.declared.operator.CompareOp.{CompareOp}
 use Rattle.star_syntax.specs.declared.operator.CompareOp.TheVariants as op
-use Rattle.star_value.specs.declared.failure.Failure.{Failure}
 use Rattle.star_value.specs.declared.failure.Failure.TheVariants as failure
 use Rattle.star_value.specs.declared.key.Key.{Key}
 use Rattle.star_value.specs.declared.value.Value.{Value, out-Value}
 use Rattle.star_value.specs.declared.value.Value.TheOpen.{Value-F}
-use Rattle.star_value.specs.Keys as keys
-use Rattle.star_meaning.specs.State.{State, list, dict, dict_get}
-use Rattle.star_meaning.specs.Steps.{Store, Action, ◌>>=◌, ◌>>◌, pure, fail, given_or, charge, read, change}
-use Rattle.star_meaning.specs.Values.{charge_weight, items_at, items_in, items_of, key_values, truth_at, is_true, is_empty}
-use Rattle.star_meaning.specs.Comparing.{Verdict, Same as Equal, Before, After, Apart, Test, onward, walk, walk_lists, same_value, walk_found, walk_pairs, walk_dicts, deeper, look, own_part, compared, equal, is_same, ordered_as, are_ordered, in_order, search_from, search_in, stop_or, within_list, key_in, within_dict, within_text, within_at, within, negated, compare}
-use Rattle.star_meaning.specs.Renaming.{Names, state_as, Same}
+use Rattle.star_meaning.specs.State.{list, dict, dict_get}
+use Rattle.star_meaning.specs.Steps.{Action, read}
+use Rattle.star_meaning.specs.Comparing.{Verdict, Same as Equal, Before, After, Apart, Test, onward, walk, walk_lists, same_value, walk_found, walk_pairs, walk_dicts, deeper, look, compared, equal, ordered_as, are_ordered, in_order, search_from, search_in, stop_or, within_list, key_in, within_dict, within_text, within_at, within, negated, compare}
+use Rattle.star_meaning.specs.Renaming.{Names, Same}
 use Rattle.star_meaning.proofs.Renamed.{same_then, same_pure, same_fail, same_given_or, same_charge, same_read, list_as, dict_as}
 
 module _ {C D : Type 0} (name : Names C D) where

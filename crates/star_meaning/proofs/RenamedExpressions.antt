@@ -1,47 +1,34 @@
 -- Expressions mean the same whatever the names of cells: the forms, over parts that mean the same.
-use Rattle.std.proofs.Common.{◌≡◌, ℕ, zero, suc, ◌+◌, List, [], ◌∷◌, ◌++◌, map, length, Bool, true, false, refl, sym, ap, subst, ◌∙◌}
-use Rattle.std.specs.Prelude.{Option, Some, None, option_map, ◌-◌, is_some, if◌then◌else◌}
+use Rattle.std.proofs.Common.{◌≡◌, ℕ, suc, List, [], ◌∷◌, ◌++◌, map, length, Bool, true, false, refl, sym, ap, subst, ◌∙◌}
+use Rattle.std.specs.Prelude.{Option, Some, None, is_some, if◌then◌else◌}
 use Rattle.std.specs.List.{flat_map}
 use Rattle.chex_base.specs.declared.input.Input.{Input}
 use Rattle.chex_base.specs.declared.input.Input.TheVariants as input
-use Rattle.chex_base.specs.Inputs as inputs
-use Rattle.star_syntax.specs.declared.expression.Link.{Link}
-use Rattle.star_syntax.specs.declared.expression.Suffix.{Suffix}
-use Rattle.star_syntax.specs.declared.expression.Suffix.TheVariants as suffix
-use Rattle.star_syntax.specs.declared.expression.Arguments.{Arguments}
 use Rattle.star_syntax.specs.declared.expression.Clause.{Clause}
 use Rattle.star_syntax.specs.declared.expression.Clause.TheVariants as clause
 use Rattle.star_syntax.specs.declared.expression.Named.{Named}
 use Rattle.star_syntax.specs.declared.expression.Pair.{Pair}
-use Rattle.star_syntax.specs.declared.expression.ChainOp.{ChainOp}
-use Rattle.star_syntax.specs.declared.expression.ChainOp.TheVariants as chain
 use Rattle.star_syntax.specs.declared.operator.CompareOp.{CompareOp}
 use Rattle.star_syntax.specs.declared.operator.UnaryOp.{UnaryOp}
-use Rattle.star_value.specs.declared.failure.Failure.{Failure}
 use Rattle.star_value.specs.declared.failure.Failure.TheVariants as failure
 use Rattle.star_value.specs.declared.key.Key.{Key}
-use Rattle.star_value.specs.declared.value.Value.{Value, out-Value}
-use Rattle.star_value.specs.declared.value.Value.TheOpen.{Value-F}
-use Rattle.star_value.specs.declared.value.Value.TheVariants as value
+use Rattle.star_value.specs.declared.value.Value.{Value}
 use Rattle.star_value.specs.Weight.{weight}
-use Rattle.star_meaning.specs.State.{State, dict_get, dict_put}
-use Rattle.star_meaning.specs.Steps.{Action, Steps, ◌>>=◌, ◌>>◌, pure, fail, given_or, charge}
-use Rattle.star_meaning.specs.Values.{is_true, items_of, charge_weight, new_dict, new_list, new_tuple}
-use Rattle.star_meaning.specs.Comparing.{key_in}
-use Rattle.star_meaning.specs.Operators.{Bounds, unpacked}
+use Rattle.star_meaning.specs.State.{dict_get, dict_put}
+use Rattle.star_meaning.specs.Steps.{Steps, ◌>>=◌, ◌>>◌, fail}
+use Rattle.star_meaning.specs.Operators.{unpacked}
 use Rattle.star_meaning.specs.Builtins.{ByName}
-use Rattle.star_meaning.specs.World.{Work, World, acting, bind, distinct, has, in_block, lock_of, locking, look_up, operate, operation, seen, turns, unbound}
-use Rattle.star_meaning.specs.Expressions.{item_value, Callee, Meant, Setting, call_function, call_written, called, called_at, chained, choose, clause_names, clauses_from, compared, comprehension, dict_turn, display_pairs, input_value, linked, list_turn, loop_over, method_called, name_of, named_from, named_values, naming, new_items, new_key, next_item, optional_value, read_input, signed, step_value, store_at, store_each, store_in, store_items, suffix_value, suffixed, tests_value, truth, values, values_from}
-use Rattle.star_meaning.specs.Renaming.{Names, state_as, world_as, outcome_as, reached, Same, SameSteps, SameSetting, SameCallee, SameMeant}
+use Rattle.star_meaning.specs.World.{Work, World, acting, distinct, has, in_block, lock_of, unbound}
+use Rattle.star_meaning.specs.Expressions.{item_value, Callee, Meant, call_function, choose, clause_names, clauses_from, compared, comprehension, dict_turn, display_pairs, input_value, list_turn, loop_over, method_called, named_from, new_items, new_key, next_item, optional_value, signed, step_value, store_at, store_each, store_in, store_items, tests_value, truth, values, values_from}
+use Rattle.star_meaning.specs.Renaming.{Names, world_as, outcome_as, reached, Same, SameSteps, SameCallee, SameMeant}
 use Rattle.star_meaning.specs.Growing.{Grown}
 use Rattle.star_meaning.proofs.GrownLemmas.{grown_same}
-use Rattle.star_meaning.proofs.Renamed.{same_then, same_pure, same_fail, same_given_or, same_charge}
+use Rattle.star_meaning.proofs.Renamed.{same_then, same_pure, same_fail, same_charge}
 use Rattle.star_meaning.proofs.RenamedComparing.{same_if_then, same_compare, same_key_in}
-use Rattle.star_meaning.proofs.RenamedShowing.{is_true_as, same_items_of, same_new_dict, same_new_list, same_new_tuple}
-use Rattle.star_meaning.proofs.RenamedOperators.{same_binary, same_index, same_slice, same_store, same_unary, same_unpacked}
-use Rattle.star_meaning.proofs.RenamedBuiltins.{same_call_builtin}
+use Rattle.star_meaning.proofs.RenamedShowing.{is_true_as, same_items_of, same_new_list, same_new_tuple}
+use Rattle.star_meaning.proofs.RenamedOperators.{same_store, same_unary, same_unpacked}
 use Rattle.star_meaning.proofs.RenamedMethods.{same_call_method}
-use Rattle.star_meaning.proofs.RenamedWorld.{same_acting, same_bind, same_failing, same_going, same_in_block, same_locking, same_look_up, same_next, same_operate, same_operation, same_seen, same_turns, same_write}
+use Rattle.star_meaning.proofs.RenamedWorld.{same_acting, same_going, same_in_block, same_locking, same_next, same_operate, same_seen, same_turns}
 
 -- two lists of one length whose items correspond
 abbrev pub Each : {A B : Type 0} → (A → B → Type 0) → List A → List B → Type 0
@@ -213,7 +200,7 @@ module _ {C D : Type 0} (name : Names C D) where
     same_comprehension (clause.For targets over ∷ xs) (clause.For others with ∷ ys) k a =
         same_next name _ _ _ _ k.0.1.value (λ v. same_next name _ _ _ _ (same_acting name _ _ (same_charge name 1)) (λ _.
         subst (λ n. SameSteps name (in_block (unbound (distinct (flat_map clause_names (clause.For targets over ∷ xs)))) (loop_over (λ x b. next_item targets x >> clauses_from xs f b) v a))
-            (in_block (unbound (distinct n)) (loop_over (λ x b. next_item others x >> clauses_from ys g b) v a))) (sym (names_of_clauses (clause.For targets over ∷ xs) (clause.For others with ∷ ys) k))
+        (in_block (unbound (distinct n)) (loop_over (λ x b. next_item others x >> clauses_from ys g b) v a))) (sym (names_of_clauses (clause.For targets over ∷ xs) (clause.For others with ∷ ys) k))
         (same_in_block name _ _ _ (same_loop_over _ _ (λ x b. same_next name _ _ _ _ (same_next_item targets others k.0.0 x) (λ _. same_clauses_from xs ys k.1 b)) v a))))
     same_comprehension (clause.For targets over ∷ xs) (clause.If other ∷ ys) k a = absurd k.0
     same_comprehension (clause.If condition ∷ xs) (clause.For others with ∷ ys) k a = absurd k.0
@@ -248,6 +235,7 @@ module _ {C D : Type 0} (name : Names C D) where
       called_or : (b : Bool) (w : World C) → (if b then fail failure.Recursion (world_as name.to w) else d id vs n (world_as name.to w)) ≡ outcome_as (world_as name.to) (if b then fail failure.Recursion w else c id vs n w)
       called_or true w = refl
       called_or false w = (h id vs n).holds w
+
       kept_or : (b : Bool) (w : World C) → Grown name.here w.store.state.objects (reached (if b then fail failure.Recursion w else c id vs n w)).store.state.objects
       kept_or true w = grown_same name.here w.store.state.objects
       kept_or false w = (h id vs n).keeps w

@@ -1,8 +1,7 @@
 -- Expressions mean the same whatever the names of cells: each form.
-use Rattle.std.proofs.Common.{◌≡◌, ℕ, zero, suc, ◌+◌, List, [], ◌∷◌, ◌++◌, map, length, Bool, true, false, refl, sym, ap, subst, ◌∙◌}
-use Rattle.std.specs.Prelude.{Option, Some, None, option_map, ◌-◌, if◌then◌else◌}
+use Rattle.std.proofs.Common.{◌≡◌, ℕ, List, [], ◌∷◌, ◌++◌, map, Bool, true, false, refl, sym, ap, subst, ◌∙◌}
+use Rattle.std.specs.Prelude.{Option, Some, None}
 use Rattle.std.specs.List.{flat_map}
-use Rattle.chex_base.specs.declared.input.Input.{Input}
 use Rattle.chex_base.specs.Inputs as inputs
 use Rattle.star_syntax.specs.declared.expression.Expr.{Expr, fold-roll-Expr, ind-Expr, map-Expr, roll-Expr}
 use Rattle.star_syntax.specs.declared.expression.Expr.TheOpen.{Expr-F}
@@ -17,19 +16,16 @@ use Rattle.star_syntax.specs.declared.expression.Named.{Named}
 use Rattle.star_syntax.specs.declared.expression.Pair.{Pair}
 use Rattle.star_syntax.specs.declared.expression.ChainOp.{ChainOp}
 use Rattle.star_syntax.specs.declared.expression.ChainOp.TheVariants as chain
-use Rattle.star_syntax.specs.declared.operator.BinaryOp.{BinaryOp}
 use Rattle.star_syntax.specs.declared.operator.CompareOp.{CompareOp}
 use Rattle.star_syntax.specs.declared.operator.UnaryOp.{UnaryOp}
-use Rattle.star_value.specs.declared.failure.Failure.{Failure}
 use Rattle.star_value.specs.declared.failure.Failure.TheVariants as failure
 use Rattle.star_value.specs.declared.value.Value.{Value, out-Value}
 use Rattle.star_value.specs.declared.value.Value.TheOpen.{Value-F}
 use Rattle.star_value.specs.declared.value.Value.TheVariants as value
-use Rattle.star_meaning.specs.Steps.{Action, Steps, ◌>>=◌, ◌>>◌, pure, fail, given_or, charge}
-use Rattle.star_meaning.specs.Operators as operators
-use Rattle.star_meaning.specs.Builtins.{ByName, call_builtin}
-use Rattle.star_meaning.specs.World.{Work, World, acting, bind, look_up, operate, operation, write}
-use Rattle.star_meaning.specs.Expressions.{Callee, Meant, Setting, call_written, called, called_at, chained, choose, front, headed, input_name, input_value, layer_names, linked, literal_of, lone_literal, meant, name_of, named_values, names_input, naming, parts, place, read_input, step, store_at, store_step, suffix_value, suffixed, turned, update_step, value_step, without_first}
+use Rattle.star_meaning.specs.Steps.{Action, ◌>>=◌, pure, fail, given_or}
+use Rattle.star_meaning.specs.Builtins.{ByName}
+use Rattle.star_meaning.specs.World.{Work, operate, operation}
+use Rattle.star_meaning.specs.Expressions.{Callee, Meant, Setting, call_written, called, called_at, chained, front, headed, input_name, input_value, linked, lone_literal, meant, name_of, named_values, naming, parts, place, read_input, step, suffix_value, suffixed, turned, without_first}
 use Rattle.star_meaning.specs.Renaming.{Names, Same, SameSteps, SameSetting, SameCallee, SameMeant}
 use Rattle.star_meaning.proofs.Renamed.{same_then, same_given_or, same_charge}
 use Rattle.star_meaning.proofs.RenamedShowing.{same_new_dict, same_new_list, same_new_tuple}
@@ -224,7 +220,9 @@ module _ {C D : Type 0} (name : Names C D) (st : Setting C) (su : Setting D) (sa
     value = same_operation name _ _ (same_look_up name n);
     store = λ v. same_bind name n v;
     update = λ f g h. same_next name _ _ _ _ (same_next name _ _ _ _ (same_operation name _ _ (same_look_up name n)) h) (same_bind name n);
-    names = refl; is_input = refl; literal = refl;
+    names = refl;
+    is_input = refl;
+    literal = refl;
   }
 
   -- a literal
@@ -240,32 +238,52 @@ module _ {C D : Type 0} (name : Names C D) (st : Setting C) (su : Setting D) (sa
   tuple_form : (ms : List (Meant C)) (ns : List (Meant D)) (b : Bool) → Each (Alike name) ms ns → Forms (Expr-F.Tuple ms b) (Expr-F.Tuple ns b)
   tuple_form ms ns b h = record {
     value = same_next name _ _ _ _ (same_values name ms ns h) (λ vs. same_operate name _ _ (same_new_tuple name vs));
-    store = same_store_items name ms ns h; update = λ f g k. never; names = names_alike ms ns h; is_input = refl; literal = refl;
+    store = same_store_items name ms ns h;
+    update = λ f g k. never;
+    names = names_alike ms ns h;
+    is_input = refl;
+    literal = refl;
   }
 
   list_form : (ms : List (Meant C)) (ns : List (Meant D)) (b : Bool) → Each (Alike name) ms ns → Forms (Expr-F.List ms b) (Expr-F.List ns b)
   list_form ms ns b h = record {
     value = same_next name _ _ _ _ (same_values name ms ns h) (λ vs. same_operate name _ _ (same_new_list name vs));
-    store = same_store_items name ms ns h; update = λ f g k. never; names = names_alike ms ns h; is_input = refl; literal = refl;
+    store = same_store_items name ms ns h;
+    update = λ f g k. never;
+    names = names_alike ms ns h;
+    is_input = refl;
+    literal = refl;
   }
 
   list_over_form : (m : Meant C) (n : Meant D) (xs : List (Clause (Meant C))) (ys : List (Clause (Meant D))) → Alike name m n → Each (AlikeClause name) xs ys → Forms (Expr-F.ListOver m xs) (Expr-F.ListOver n ys)
   list_over_form m n xs ys h k = record {
     value = same_next name _ _ _ _ (same_comprehension name _ _ (same_list_turn name m n h) xs ys k []) (λ vs. same_acting name _ _ (same_new_list name vs));
-    store = λ v. never; update = λ f g l. never; names = refl; is_input = refl; literal = refl;
+    store = λ v. never;
+    update = λ f g l. never;
+    names = refl;
+    is_input = refl;
+    literal = refl;
   }
 
   dict_form : (xs : List (Pair (Meant C))) (ys : List (Pair (Meant D))) (b : Bool) → Each (AlikePair name) xs ys → Forms (Expr-F.Dict xs b) (Expr-F.Dict ys b)
   dict_form xs ys b h = record {
     value = same_next name _ _ _ _ (same_display_pairs name [] xs ys h) (λ done. same_operate name _ _ (same_new_dict name done));
-    store = λ v. never; update = λ f g k. never; names = refl; is_input = refl; literal = refl;
+    store = λ v. never;
+    update = λ f g k. never;
+    names = refl;
+    is_input = refl;
+    literal = refl;
   }
 
   dict_over_form : (k v : Meant C) (l w : Meant D) (xs : List (Clause (Meant C))) (ys : List (Clause (Meant D))) → Alike name k l → Alike name v w → Each (AlikeClause name) xs ys
       → Forms (Expr-F.DictOver k v xs) (Expr-F.DictOver l w ys)
   dict_over_form k v l w xs ys h g e = record {
     value = same_next name _ _ _ _ (same_comprehension name _ _ (same_dict_turn name k v l w h g) xs ys e []) (λ done. same_acting name _ _ (same_new_dict name done));
-    store = λ x. never; update = λ f x y. never; names = refl; is_input = refl; literal = refl;
+    store = λ x. never;
+    update = λ f x y. never;
+    names = refl;
+    is_input = refl;
+    literal = refl;
   }
 
   primary_form : (m : Meant C) (n : Meant D) (xs : List (Suffix (Meant C))) (ys : List (Suffix (Meant D))) → Alike name m n → Each AlikeSuffix xs ys → Forms (Expr-F.Primary m xs) (Expr-F.Primary n ys)
@@ -274,7 +292,9 @@ module _ {C D : Type 0} (name : Names C D) (st : Setting C) (su : Setting D) (sa
     store = λ v. same_next name _ _ _ _ (same_place m n xs ys h k) (λ at. same_store_at name at.0 at.1 v);
     update = λ f g l. same_next name _ _ _ _ (same_place m n xs ys h k) (λ at. same_next name _ _ _ _ (same_operate name _ _ (same_index name at.0 at.1)) (λ old.
         same_next name _ _ _ _ (l old) (λ new. same_store_at name at.0 at.1 new)));
-    names = refl; is_input = refl; literal = refl;
+    names = refl;
+    is_input = refl;
+    literal = refl;
   }
 
   signed_form : (ss : List UnaryOp) (m : Meant C) (n : Meant D) → Alike name m n → Forms (Expr-F.Signed ss m) (Expr-F.Signed ss n)
@@ -286,19 +306,31 @@ module _ {C D : Type 0} (name : Names C D) (st : Setting C) (su : Setting D) (sa
   compare_form : (a b : Meant C) (x y : Meant D) (o : CompareOp) → Alike name a x → Alike name b y → Forms (Expr-F.Compare a o b) (Expr-F.Compare x o y)
   compare_form a b x y o h k = record {
     value = same_next name _ _ _ _ h.value (λ u. same_next name _ _ _ _ k.value (λ v. same_operate name _ _ (same_compared name o u v)));
-    store = λ v. never; update = λ f g l. never; names = refl; is_input = refl; literal = refl;
+    store = λ v. never;
+    update = λ f g l. never;
+    names = refl;
+    is_input = refl;
+    literal = refl;
   }
 
   not_form : (count : ℕ) (m : Meant C) (n : Meant D) → Alike name m n → Forms (Expr-F.Not count m) (Expr-F.Not count n)
   not_form count m n h = record {
     value = same_next name _ _ _ _ h.value (λ v. same_next name _ _ _ _ (same_acting name _ _ (same_charge name count)) (λ _. same_next name _ _ _ _ (same_truth name v) (λ t. same_going name (value.Bool (turned count t)))));
-    store = λ v. never; update = λ f g k. never; names = refl; is_input = refl; literal = refl;
+    store = λ v. never;
+    update = λ f g k. never;
+    names = refl;
+    is_input = refl;
+    literal = refl;
   }
 
   conditional_form : (a b e : Meant C) (x y z : Meant D) → Alike name a x → Alike name b y → Alike name e z → Forms (Expr-F.Conditional a b e) (Expr-F.Conditional x y z)
   conditional_form a b e x y z h k l = record {
     value = same_next name _ _ _ _ k.value (λ v. same_next name _ _ _ _ (same_acting name _ _ (same_charge name 1)) (λ _. same_next name _ _ _ _ (same_truth name v) (λ t. same_choose name t _ _ _ _ h.value l.value)));
-    store = λ v. never; update = λ f g m. never; names = refl; is_input = refl; literal = refl;
+    store = λ v. never;
+    update = λ f g m. never;
+    names = refl;
+    is_input = refl;
+    literal = refl;
   }
 
   -- ---- trees

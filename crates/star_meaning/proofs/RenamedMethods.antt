@@ -1,8 +1,7 @@
 -- The methods do the same whatever the names of cells.
-use Rattle.std.proofs.Common.{◌≡◌, ℕ, ℤ, pos, negsuc, zero, suc, ◌+◌, List, [], ◌∷◌, ◌++◌, map, length, Bool, true, false, refl, sym, ap, ◌∙◌}
-use Rattle.std.specs.Prelude.{Option, Some, None, option_map, ◌-◌, if◌then◌else◌, codes, bytes_eq}
-use Rattle.std.specs.List.{insert, remove, flat_map}
-use Rattle.star_value.specs.declared.failure.Failure.{Failure}
+use Rattle.std.proofs.Common.{ℕ, negsuc, List, [], ◌∷◌, ◌++◌, map, length, Bool, true, false, ap}
+use Rattle.std.specs.Prelude.{Option, Some, None, option_map, if◌then◌else◌, codes, bytes_eq}
+use Rattle.std.specs.List.{insert, remove}
 use Rattle.star_value.specs.declared.failure.Failure.TheVariants as failure
 use Rattle.star_value.specs.declared.key.Key.{Key}
 use Rattle.star_value.specs.declared.value.Value.{Value, out-Value}
@@ -10,13 +9,13 @@ use Rattle.star_value.specs.declared.value.Value.TheOpen.{Value-F}
 use Rattle.star_value.specs.declared.value.Value.TheVariants as value
 use Rattle.star_value.specs.Texts as texts
 use Rattle.star_value.specs.Weight.{weight}
-use Rattle.star_meaning.specs.State.{State, list, dict, dict_get, dict_put, dict_without, with_list, with_dict}
-use Rattle.star_meaning.specs.Steps.{Action, ◌>>=◌, ◌>>◌, pure, fail, given_or, charge, read, change}
+use Rattle.star_meaning.specs.State.{dict, dict_get, dict_put, dict_without}
+use Rattle.star_meaning.specs.Steps.{Action, ◌>>=◌, given_or, read}
 use Rattle.star_meaning.specs.Values.{is_empty, key_values, named_in, place_of}
 use Rattle.star_meaning.specs.Builtins.{ByName, unnamed}
 use Rattle.star_meaning.specs.Methods.{ObjectMethod, TextMethod, append, as_set, call_method, change_list, clear_dict, clear_list, dict_at, dict_methods, extend_by, find, found_or, get, index_of, insert_in, insert_place, items_of_dict, join, keys_of, list_methods, method_at, not_empty, or_none, or_other, or_zero, pair_rows, pair_values, pieces, place_in, pop_item, pop_key, put_all, put_if_absent, remove_item, replace, set_default, split, split_by, strip_ends, tested_with, text_methods, update, values_of, walk_texts, with_none, with_two}
-use Rattle.star_meaning.specs.Renaming.{Names, state_as, Same}
-use Rattle.star_meaning.proofs.Renamed.{same_then, same_pure, same_fail, same_given_or, same_charge, same_read, list_as, dict_as}
+use Rattle.star_meaning.specs.Renaming.{Names, Same}
+use Rattle.star_meaning.proofs.Renamed.{same_then, same_pure, same_fail, same_given_or, same_charge, same_read, dict_as}
 use Rattle.star_meaning.proofs.RenamedComparing.{same_if_then, same_key_in, same_list, same_dict, same_search_in}
 use Rattle.star_meaning.proofs.RenamedShowing.{same_items_of}
 use Rattle.star_meaning.proofs.RenamedOperators.{same_charged_list, same_check_unlocked, same_dict_change, same_extend, same_item_at, same_list_change}

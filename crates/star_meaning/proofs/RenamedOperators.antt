@@ -1,30 +1,27 @@
 -- The operators do the same whatever the names of cells.
-use Rattle.std.proofs.Common.{◌≡◌, ℕ, ℤ, pos, zero, suc, ◌+◌, List, [], ◌∷◌, ◌++◌, map, length, Bool, true, false, refl, sym, ap, ◌∙◌}
+use Rattle.std.proofs.Common.{◌≡◌, ℕ, ℤ, pos, List, [], ◌∷◌, ◌++◌, length, ap, ◌∙◌}
 use Rattle.std.specs.Int.{int_bit_and, int_bit_or, int_bit_xor, w128}
 use Rattle.std.specs.List.{repeat}
-use Rattle.std.specs.Prelude.{◌-ℤ◌, Option, Some, None, option_map, slice_get, slice_set, ◌-◌, ◌==◌, not, if◌then◌else◌}
+use Rattle.std.specs.Prelude.{◌-ℤ◌, Option, slice_set, ◌==◌, not}
 use Rattle.star_syntax.specs.declared.operator.BinaryOp.{BinaryOp}
 use Rattle.star_syntax.specs.declared.operator.BinaryOp.TheVariants as op
 use Rattle.star_syntax.specs.declared.operator.UnaryOp.{UnaryOp}
 use Rattle.star_syntax.specs.declared.operator.UnaryOp.TheVariants as sign
-use Rattle.star_value.specs.declared.failure.Failure.{Failure}
 use Rattle.star_value.specs.declared.failure.Failure.TheVariants as failure
 use Rattle.star_value.specs.declared.format.Part.{Part}
 use Rattle.star_value.specs.declared.format.Part.TheVariants as part
 use Rattle.star_value.specs.declared.key.Key.{Key}
 use Rattle.star_value.specs.declared.value.Value.{Value, out-Value}
 use Rattle.star_value.specs.declared.value.Value.TheOpen.{Value-F}
-use Rattle.star_value.specs.declared.value.Value.TheVariants as value
-use Rattle.star_value.specs.Format as format
-use Rattle.star_meaning.specs.State.{State, list, dict, dict_get, dict_put, with_list, with_dict}
-use Rattle.star_meaning.specs.Steps.{Action, ◌>>=◌, ◌>>◌, pure, fail, given_or, charge, read, change}
-use Rattle.star_meaning.specs.Values.{integer, times, floor_of, rest_of, is_zero, int_in, place_of, new_list}
+use Rattle.star_meaning.specs.State.{list, dict, dict_get, dict_put, with_list, with_dict}
+use Rattle.star_meaning.specs.Steps.{Action, change}
+use Rattle.star_meaning.specs.Values.{integer, times, floor_of, rest_of, is_zero, place_of}
 use Rattle.star_meaning.specs.Showing.{Naming}
-use Rattle.star_meaning.specs.Operators.{bound, or_int, add_at, added_in_place, augmented, binary, Bounds, charged_list, check_sliced, check_unlocked, decimals_fit, divided, extend, filled, formatted, formatted_parts, index, index_at, is_locked, is_sliced, item_at, joined_lists, modulo_at, multiply_at, on_ints, put_key, range_item_at, repeated_list, signed_int, slice, slice_at, stepped, store, store_at, store_item, store_key, taken, unary, unpacked, unpacked_at, value_at_key, values_for, values_taken}
+use Rattle.star_meaning.specs.Operators.{bound, or_int, add_at, added_in_place, augmented, binary, Bounds, charged_list, check_sliced, check_unlocked, decimals_fit, divided, extend, filled, formatted_parts, index, index_at, is_locked, is_sliced, item_at, joined_lists, modulo_at, multiply_at, on_ints, put_key, repeated_list, slice, slice_at, stepped, store, store_at, store_item, store_key, taken, unary, unpacked, unpacked_at, value_at_key, values_for, values_taken}
 use Rattle.star_meaning.specs.Renaming.{Names, state_as, Same}
 use Rattle.star_meaning.proofs.Renamed.{same_then, same_pure, same_fail, same_given_or, same_charge, same_read, same_change, list_as, dict_as, with_list_as, with_dict_as}
 use Rattle.star_meaning.proofs.GrownLemmas.{grown_dict, grown_list}
-use Rattle.star_meaning.proofs.RenamedComparing.{same_if_then, same_key_in, same_list, same_dict}
+use Rattle.star_meaning.proofs.RenamedComparing.{same_if_then, same_key_in, same_list}
 use Rattle.star_meaning.proofs.RenamedShowing.{same_items_of, same_joined, same_new_list, same_quoted, same_shown}
 
 module _ {C D : Type 0} (name : Names C D) where

@@ -1,21 +1,20 @@
 -- Values and their written forms are the same whatever the names of cells.
-use Rattle.std.proofs.Common.{◌≡◌, ℕ, zero, suc, ◌+◌, List, [], ◌∷◌, ◌++◌, map, length, Bool, true, false, refl, sym, ap, ◌∙◌}
-use Rattle.std.specs.Prelude.{Option, Some, None, option_map, slice_get, ◌-◌, not, if◌then◌else◌, codes}
+use Rattle.std.proofs.Common.{◌≡◌, ℕ, zero, suc, List, [], ◌∷◌, map, true, false, refl, ap, ◌∙◌}
+use Rattle.std.specs.Prelude.{Option, Some, None, option_map, slice_get, not, codes}
 use Rattle.star_value.specs.declared.failure.Failure.{Failure}
 use Rattle.star_value.specs.declared.failure.Failure.TheVariants as failure
 use Rattle.star_value.specs.declared.key.Key.{Key}
 use Rattle.star_value.specs.declared.value.Value.{Value, out-Value}
 use Rattle.star_value.specs.declared.value.Value.TheOpen.{Value-F}
 use Rattle.star_value.specs.declared.value.Value.TheVariants as value
-use Rattle.star_value.specs.Weight.{depth}
 use Rattle.star_value.specs.Keys as keys
-use Rattle.star_meaning.specs.State.{Object, AList, ADict, AFunction, State, object, list, dict, function, parts_of, next_id, with_new}
-use Rattle.star_meaning.specs.Steps.{Outcome, Went, Store, Action, ◌>>=◌, ◌>>◌, pure, fail, given_or, charge, read, change}
-use Rattle.star_meaning.specs.Values.{charge_weight, check_depth, items_at, items_in, items_of, key_values, truth_at, is_true, is_empty, new_dict, new_function, new_list, new_tuple, text_in}
+use Rattle.star_meaning.specs.State.{Object, AList, ADict, AFunction, State, object, function, parts_of, next_id, with_new}
+use Rattle.star_meaning.specs.Steps.{Outcome, Went, Store, Action, ◌>>=◌, read}
+use Rattle.star_meaning.specs.Values.{check_depth, items_at, items_in, items_of, key_values, truth_at, is_true, is_empty, new_dict, new_function, new_list, new_tuple, text_in}
 use Rattle.star_meaning.specs.Showing.{Naming, Writing, made, ◌<+>◌, made_after, made_between, between, list_text, tuple_text, pair_text, dict_text, opened, function_name, function_text, quoted_at, quoted_in, quoted, shown_at, shown}
 use Rattle.star_meaning.specs.Validity.{renamed}
 use Rattle.star_meaning.specs.Renaming.{Names, state_as, store_as, Same}
-use Rattle.star_meaning.proofs.Renamed.{same_then, same_pure, same_fail, same_given_or, same_charge, same_read, same_change, list_as, dict_as, with_new_as, next_id_as, get_same}
+use Rattle.star_meaning.proofs.Renamed.{same_then, same_pure, same_fail, same_given_or, same_charge, same_read, list_as, dict_as, with_new_as, next_id_as, get_same}
 use Rattle.star_meaning.proofs.GrownLemmas.{grown_new}
 use Rattle.star_meaning.proofs.RenamedComparing.{same_if_then, same_list, same_dict}
 
@@ -49,7 +48,7 @@ module _ {C D : Type 0} (name : Names C D) where
 
   new_same : (make : ℕ → Value) (o : Object C) (s : Store C)
       → ◌≡◌ {A = Outcome (Store D) Failure Value} (Went (make (next_id (state_as name.to s.state))) (record { state = with_new (state_as name.to s.state) (renamed name.to o); left = s.left }))
-          (Went (make (next_id s.state)) (store_as name.to (record { state = with_new s.state o; left = s.left })))
+      (Went (make (next_id s.state)) (store_as name.to (record { state = with_new s.state o; left = s.left })))
   new_same make o s =
       ap (λ id. Went (make id) (record { state = with_new (state_as name.to s.state) (renamed name.to o); left = s.left })) (next_id_as name.to s.state)
       ∙ ap (λ t. Went (make (next_id s.state)) (record { state = t; left = s.left })) (with_new_as name.to s.state o)
@@ -65,7 +64,8 @@ module _ {C D : Type 0} (name : Names C D) where
   pub same_new_function : (number : ℕ) (defaults : List Value) → Same name (new_function name.here number defaults) (new_function (name.to name.here) number defaults)
   unfolding new_function with_new
   same_new_function number defaults = record {
-    holds = new_same value.Function (AFunction name.here number defaults); keeps = λ s. grown_new name.here s.state.objects (AFunction name.here number defaults) refl;
+    holds = new_same value.Function (AFunction name.here number defaults);
+    keeps = λ s. grown_new name.here s.state.objects (AFunction name.here number defaults) refl;
   }
 
   -- ---- written forms

@@ -1,6 +1,6 @@
 -- Statements and calls do the same whatever the names of cells.
-use Rattle.std.proofs.Common.{◌≡◌, ℕ, zero, suc, ◌+◌, List, [], ◌∷◌, ◌++◌, map, length, Bool, true, false, refl, sym, ap, subst, ◌∙◌}
-use Rattle.std.specs.Prelude.{Option, Some, None, option_map, slice_get, ◌-◌, ◌&&◌, sum, if◌then◌else◌}
+use Rattle.std.proofs.Common.{◌≡◌, ℕ, zero, suc, List, [], ◌∷◌, map, Bool, true, false, refl, sym, ap, subst, ◌∙◌}
+use Rattle.std.specs.Prelude.{Option, Some, None, option_map, slice_get, ◌&&◌, sum}
 use Rattle.star_syntax.specs.declared.expression.Expr.{Expr}
 use Rattle.star_syntax.specs.declared.expression.Named.{Named}
 use Rattle.star_syntax.specs.declared.operator.BinaryOp.{BinaryOp}
@@ -14,30 +14,27 @@ use Rattle.star_syntax.specs.declared.statement.SmallKind.{SmallKind}
 use Rattle.star_syntax.specs.declared.statement.SmallKind.TheVariants as small
 use Rattle.star_syntax.specs.declared.statement.Statement.{Statement, fold-roll-Statement, ind-Statement, map-Statement, roll-Statement}
 use Rattle.star_syntax.specs.declared.statement.Statement.TheOpen.{Statement-F}
-use Rattle.star_value.specs.declared.failure.Failure.{Failure}
 use Rattle.star_value.specs.declared.failure.Failure.TheVariants as failure
 use Rattle.star_value.specs.declared.value.Value.{Value, out-Value}
 use Rattle.star_value.specs.declared.value.Value.TheOpen.{Value-F}
 use Rattle.star_value.specs.declared.value.Value.TheVariants as value
 use Rattle.star_meaning.specs.declared.flow.Flow.{Flow}
 use Rattle.star_meaning.specs.declared.flow.Flow.TheVariants as flow
-use Rattle.star_meaning.specs.State.{Object, AList, ADict, AFunction, State, function, object, parts_of}
-use Rattle.star_meaning.specs.Steps.{Outcome, Went, Failed, Steps, Action, ◌>>=◌, ◌>>◌, pure, fail, given_or, charge, and_then}
-use Rattle.star_meaning.specs.Values.{is_empty, items_of, new_function}
+use Rattle.star_meaning.specs.State.{Object, AList, ADict, AFunction, function, object, parts_of}
+use Rattle.star_meaning.specs.Steps.{Outcome, Went, Failed, ◌>>=◌}
+use Rattle.star_meaning.specs.Values.{is_empty, new_function}
 use Rattle.star_meaning.specs.Showing.{made, quoted, ◌<+>◌}
-use Rattle.star_meaning.specs.Operators.{augmented}
 use Rattle.star_meaning.specs.Builtins.{ByName}
-use Rattle.star_meaning.specs.World as world
-use Rattle.star_meaning.specs.World.{World, Work, Fault, Course, located, acting, seen, write, bind, in_function, locking, lock_of}
-use Rattle.star_meaning.specs.Expressions.{Setting, Callee, Meant, choose, meant, naming, next_item, store_in, tests_value, truth, values}
-use Rattle.star_meaning.specs.Statements.{Doing, Filled, after_turn, all_meant, block_of, body_of, branch_of, branches_of, call_to, condition_of, default_weight, defined, echo, echo_at, echo_if, else_of, ended, filled, for_turns, go_on, in_order, iterated, kind_of, layer_of, line_of, local_block, operator, parameters_of, repeated, result_of, returned, run_body, run_defined, run_filled, run_function, small_of, statement_of, then_on}
+use Rattle.star_meaning.specs.World.{World, Work, Fault, Course, acting, write, bind, lock_of}
+use Rattle.star_meaning.specs.Expressions.{Setting, Callee, choose, meant, naming, tests_value, values}
+use Rattle.star_meaning.specs.Statements.{Doing, Filled, after_turn, all_meant, block_of, body_of, branches_of, call_to, condition_of, default_weight, defined, echo, echo_at, echo_if, else_of, ended, filled, for_turns, go_on, in_order, iterated, kind_of, layer_of, line_of, local_block, operator, parameters_of, repeated, result_of, returned, run_body, run_defined, run_filled, run_function, small_of, statement_of, then_on}
 use Rattle.star_meaning.specs.Validity.{renamed}
-use Rattle.star_meaning.specs.Renaming.{Names, state_as, world_as, outcome_as, reached, Same, SameSteps, SameSetting, SameCallee, SameMeant}
+use Rattle.star_meaning.specs.Renaming.{Names, world_as, outcome_as, reached, SameSteps, SameSetting, SameCallee, SameMeant}
 use Rattle.star_meaning.specs.Growing.{Grown}
 use Rattle.star_meaning.proofs.Renamed.{same_charge, get_same}
 use Rattle.star_meaning.proofs.RenamedShowing.{same_items_of, same_joined, same_made, same_new_function, same_quoted}
 use Rattle.star_meaning.proofs.RenamedOperators.{same_augmented}
-use Rattle.star_meaning.proofs.RenamedWorld.{same_acting, same_bind, same_failing, same_going, same_in_function, same_located, same_locking, same_next, same_operate, same_seen, same_write}
+use Rattle.star_meaning.proofs.RenamedWorld.{same_acting, same_bind, same_failing, same_going, same_in_function, same_located, same_locking, same_next, same_operate, same_write}
 use Rattle.star_meaning.proofs.RenamedExpressions.{Each, Alike, same_choose, same_next_item, same_store_in, same_tests_value, same_truth, same_values}
 use Rattle.star_meaning.proofs.RenamedForms.{naming_as, same_meant}
 

@@ -1,13 +1,13 @@
 -- Steps of expressions and statements do the same whatever the names of cells.
-use Rattle.std.proofs.Common.{◌≡◌, ℕ, zero, suc, ◌+◌, List, [], ◌∷◌, ◌++◌, map, Bool, true, false, refl, sym, ap, ◌∙◌}
-use Rattle.std.specs.Prelude.{Option, Some, None, option_map, ◌-◌, if◌then◌else◌}
+use Rattle.std.proofs.Common.{◌≡◌, ℕ, List, [], ◌∷◌, ◌++◌, refl, ap, ◌∙◌}
+use Rattle.std.specs.Prelude.{Option, Some, None, ◌-◌}
 use Rattle.star_value.specs.declared.failure.Failure.{Failure}
 use Rattle.star_value.specs.declared.failure.Failure.TheVariants as failure
-use Rattle.star_value.specs.declared.value.Value.{Value, out-Value}
+use Rattle.star_value.specs.declared.value.Value.{Value}
 use Rattle.star_value.specs.Weight.{weight}
 use Rattle.star_meaning.specs.State.{Object, State, global, set_global}
-use Rattle.star_meaning.specs.Steps.{Outcome, Went, Failed, Steps, Store, Action, and_then, ◌>>=◌, ◌>>◌, pure, fail, given_or, charge}
-use Rattle.star_meaning.specs.World.{Block, Course, Fault, Frame, World, Work, acting, bind, binding, in_block, in_function, located, located_at, locking, look_up, operate, operation, put_back, seen, slot_of, turns, unlocked, value_in, with_frame, with_store, write}
+use Rattle.star_meaning.specs.Steps.{Outcome, Went, Failed, Steps, Store, Action, and_then, ◌>>=◌, pure, fail, given_or}
+use Rattle.star_meaning.specs.World.{Block, Frame, World, Work, acting, bind, binding, in_block, in_function, located, located_at, locking, look_up, operate, operation, put_back, seen, slot_of, turns, unlocked, value_in, with_frame, with_store, write}
 use Rattle.star_meaning.specs.Renaming.{Names, state_as, store_as, world_as, outcome_as, reached, Same, SameSteps}
 use Rattle.star_meaning.specs.Growing.{Grown}
 use Rattle.star_meaning.proofs.GrownLemmas.{grown_same, grown_then}

@@ -1,6 +1,6 @@
 -- States in which cells have other names.
 use Rattle.std.specs.Prelude.{◌≡◌, ℕ, List, map}
-use Rattle.star_meaning.specs.State.{Object, AList, ADict, AFunction, State}
+use Rattle.star_meaning.specs.State.{State}
 use Rattle.star_meaning.specs.Steps.{Outcome, Went, Failed, Steps, Store, Action}
 use Rattle.star_value.specs.declared.value.Value.{Value}
 use Rattle.star_meaning.specs.Builtins.{ByName}
