@@ -1,5 +1,5 @@
 -- The meaning of the forms whose parts stand in lists of their own: each part with its meaning in its place.
-use Rattle.std.proofs.Common.{◌≡◌, ℕ, List, [], ◌∷◌, map, Bool, refl, ap, sym, ◌∙◌}
+use Rattle.std.proofs.Common.{◌≡◌, ℕ, List, [], ◌∷◌, map, Bool, false, refl, ap, ◌∙◌}
 use Rattle.std.specs.Prelude.{Option, Some, None, option_map}
 use Rattle.star_syntax.specs.declared.expression.Arguments.{Arguments}
 use Rattle.star_syntax.specs.declared.expression.ChainLevel.{ChainLevel}
@@ -14,16 +14,14 @@ use Rattle.star_syntax.specs.declared.expression.Suffix.TheVariants as suffix
 use Rattle.star_syntax.specs.declared.statement.Block.{Block}
 use Rattle.star_syntax.specs.declared.statement.Block.TheVariants as blocks
 use Rattle.star_syntax.specs.declared.statement.Branch.{Branch}
-use Rattle.star_syntax.specs.declared.statement.Definition.{Definition}
 use Rattle.star_syntax.specs.declared.statement.Statement.{Statement, map-Statement}
 use Rattle.star_syntax.specs.declared.statement.Statement.TheOpen.{Statement-F}
 use Rattle.star_syntax.specs.declared.statement.Statement.TheVariants as s
-use Rattle.star_meaning.specs.Steps.{◌>>=◌, ◌>>◌, charge}
-use Rattle.star_meaning.specs.World.{Course, World, acting, located}
-use Rattle.star_meaning.specs.declared.flow.Flow.{Flow}
+use Rattle.star_meaning.specs.Steps.{◌>>=◌}
+use Rattle.star_meaning.specs.World.{World}
 use Rattle.star_meaning.specs.Expressions.{Callee, Meant, Setting, meant, step}
-use Rattle.star_meaning.specs.Statements.{Doing, block_of, body_of, branches_of, defined, else_of, iterated, layer_of, repeated, statement_of, then_on}
-use Rattle.star_meaning.proofs.Equations.{meant_chain, meant_dict, meant_primary}
+use Rattle.star_meaning.specs.Statements.{Doing, block_of, body_of, go_on, in_order, layer_of, statement_of}
+use Rattle.star_meaning.proofs.Equations.{meant_chain, meant_dict, meant_primary, statement_for, statement_if}
 
 links_in : {X : Type 0} → Expr-F X → List (Link X)
 links_in (Expr-F.Chain level first xs) = xs
@@ -125,3 +123,80 @@ module _ {C : Type 0} (setting : Setting C) (call : Callee C) where
   pub primary_is : (head : Expr) (suffixes : List (Suffix Expr)) → meant setting call (e.Primary head suffixes) ≡ step setting call (Expr-F.Primary (meant setting call head) (map suffix_meant suffixes))
   unfolding suffixes_in
   primary_is head suffixes = meant_primary setting call head suffixes ∙ ap (λ xs. step setting call (Expr-F.Primary (to head) xs)) (suffixes_again head suffixes)
+
+  -- ---- statements with blocks
+
+  abbrev pub block_done : Block Statement → Block (Doing C)
+  block_done (blocks.Inline line) = blocks.Inline line
+  block_done (blocks.Indented all) = blocks.Indented (map (statement_of setting call) all)
+
+  abbrev pub branch_done : Branch Statement → Branch (Doing C)
+  branch_done branch = record { condition = branch.condition; body = block_done branch.body }
+
+  body_in_loop : {X : Type 0} → Statement-F X → Block X
+  body_in_loop (Statement-F.For at targets over body) = body
+  body_in_loop _ = blocks.Inline (record { smalls = []; semicolon = false })
+
+  body_again : (at : ℕ) (targets over : List Expr) (body : Block Statement) → body_in_loop (map-Statement Statement (Doing C) (statement_of setting call) (Statement-F.For at targets over body)) ≡ block_done body
+  unfolding body_in_loop
+  body_again at targets over (blocks.Inline line) = refl
+  body_again at targets over (blocks.Indented all) = refl
+
+  pub for_is : (at : ℕ) (targets over : List Expr) (body : Block Statement) (last : Bool) (number : ℕ) (w : World C)
+      → statement_of setting call (s.For at targets over body) last number w ≡ layer_of setting call (Statement-F.For at targets over (block_done body)) last number w
+  unfolding body_in_loop
+  for_is at targets over body last number w =
+      statement_for setting call at targets over body last number w ∙ ap (λ b. layer_of setting call (Statement-F.For at targets over b) last number w) (body_again at targets over body)
+
+  else_in_if : {X : Type 0} → Statement-F X → Option (Block X)
+  else_in_if (Statement-F.If at first more other) = other
+  else_in_if _ = None
+
+  more_in_if : {X : Type 0} → Statement-F X → List (Branch X)
+  more_in_if (Statement-F.If at first more other) = more
+  more_in_if _ = []
+
+  first_in_if : {X : Type 0} → Branch X → Statement-F X → Branch X
+  first_in_if given (Statement-F.If at first more other) = first
+  first_in_if given _ = given
+
+  first_again : (at : ℕ) (x : Expr) (body : Block Statement) (more : List (Branch Statement)) (other : Option (Block Statement)) (given : Branch (Doing C))
+      → first_in_if given (map-Statement Statement (Doing C) (statement_of setting call) (Statement-F.If at (record { condition = x; body = body }) more other)) ≡ branch_done (record { condition = x; body = body })
+  unfolding first_in_if
+  first_again at x (blocks.Inline line) more other given = refl
+  first_again at x (blocks.Indented all) more other given = refl
+
+  more_again : (at : ℕ) (first : Branch Statement) (more : List (Branch Statement)) (other : Option (Block Statement))
+      → more_in_if (map-Statement Statement (Doing C) (statement_of setting call) (Statement-F.If at first more other)) ≡ map branch_done more
+  unfolding more_in_if first_in_if
+  more_again at first [] other = refl
+  more_again at first (b ∷ more) other =
+      ap (λ x. x ∷ more_in_if (map-Statement Statement (Doing C) (statement_of setting call) (Statement-F.If at first more other))) (first_again at b.condition b.body more other (branch_done b))
+      ∙ ap (λ xs. branch_done b ∷ xs) (more_again at first more other)
+
+  else_again : (at : ℕ) (first : Branch Statement) (more : List (Branch Statement)) (other : Option (Block Statement))
+      → else_in_if (map-Statement Statement (Doing C) (statement_of setting call) (Statement-F.If at first more other)) ≡ option_map block_done other
+  unfolding else_in_if
+  else_again at first more None = refl
+  else_again at first more (Some (blocks.Inline line)) = refl
+  else_again at first more (Some (blocks.Indented all)) = refl
+
+  pub if_is : (at : ℕ) (first : Branch Statement) (more : List (Branch Statement)) (other : Option (Block Statement)) (last : Bool) (number : ℕ) (w : World C)
+      → statement_of setting call (s.If at first more other) last number w ≡ layer_of setting call (Statement-F.If at (branch_done first) (map branch_done more) (option_map block_done other)) last number w
+  unfolding more_in_if first_in_if else_in_if
+  if_is at first more other last number w =
+      statement_if setting call at first more other last number w
+      ∙ ap (λ x. layer_of setting call (Statement-F.If at x (more_in_if (map-Statement Statement (Doing C) (statement_of setting call) (Statement-F.If at first more other)))
+      (else_in_if (map-Statement Statement (Doing C) (statement_of setting call) (Statement-F.If at first more other)))) last number w) (first_again at first.condition first.body more other (branch_done first))
+      ∙ ap (λ xs. layer_of setting call (Statement-F.If at (branch_done first) xs (else_in_if (map-Statement Statement (Doing C) (statement_of setting call) (Statement-F.If at first more other)))) last number w)
+      (more_again at first more other)
+      ∙ ap (λ o. layer_of setting call (Statement-F.If at (branch_done first) (map branch_done more) o) last number w) (else_again at first more other)
+
+  -- statements in a block, one after another
+  in_order_again : (last : Bool) (all : List Statement) → in_order (λ l s. s false 0) last (map (statement_of setting call) all) ≡ in_order (λ l s. statement_of setting call s false 0) last all
+  in_order_again last [] = refl
+  in_order_again last (x ∷ all) = ap (λ rest. statement_of setting call x false 0 >>= go_on rest) (in_order_again last all)
+
+  pub block_is : (body : Block Statement) → block_of setting call (block_done body) ≡ body_of setting call body
+  block_is (blocks.Inline line) = refl
+  block_is (blocks.Indented all) = in_order_again false all
