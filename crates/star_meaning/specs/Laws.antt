@@ -3,6 +3,13 @@ use Rattle.std.specs.Prelude.{◌≡◌, ℕ, List, [], ◌∷◌, ◌++◌}
 use Rattle.chex_base.specs.declared.input.Input.{Input}
 use Rattle.star_syntax.specs.declared.cell.Program.{Program}
 use Rattle.star_syntax.specs.CellParts.{CellParts}
+use Rattle.star_value.specs.declared.failure.Failure.TheVariants.{TooManyCalls}
+use Rattle.star_value.specs.declared.value.Value.{Value}
+use Rattle.star_meaning.specs.Steps.{Failed}
+use Rattle.star_meaning.specs.Builtins.{ByName}
+use Rattle.star_meaning.specs.World.{World}
+use Rattle.star_meaning.specs.Expressions.{Setting}
+use Rattle.star_meaning.specs.Statements.{call_to}
 use Rattle.star_meaning.specs.Cells.{Shown, ran}
 use Rattle.star_meaning.specs.Growing.{Grown}
 use Rattle.star_meaning.specs.Renaming.{state_as}
@@ -31,3 +38,7 @@ AfterShowsTheMeaning = (program : Program) (m : MachineState) (node : ℕ) (inpu
 -- a function keeps its cell, and every other function of the state after a cell has this cell
 abbrev pub FunctionsStay : Type 0
 FunctionsStay = (s : Shown) (cell : CellParts) (inputs : List (List ℕ × Input)) (allowance : ℕ) → Grown cell s.objects (ran s cell inputs allowance).1.objects
+
+-- where 32 functions are active no further call of a function has room
+abbrev pub CallsAreFew : Type 0
+CallsAreFew = (setting : Setting CellParts) (id : ℕ) (vs : List Value) (named : ByName) (w : World CellParts) → call_to setting 0 id vs named w ≡ Failed TooManyCalls w

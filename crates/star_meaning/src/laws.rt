@@ -26,3 +26,10 @@ pub fn after_shows_the_meaning()
 pub fn functions_stay()
     ensures { laws.FunctionsStay }
 {}
+
+/// Where 32 functions are active no further call of a function has room.
+#[tactic(auto, unfolding(crate::specs::Statements::call_to))]
+pub fn calls_are_few()
+    ensures { laws.CallsAreFew }
+{
+}
