@@ -31,5 +31,4 @@ pub fn functions_stay()
 #[tactic(auto, unfolding(crate::specs::Statements::call_to))]
 pub fn calls_are_few()
     ensures { laws.CallsAreFew }
-{
-}
+{}
