@@ -13,4 +13,7 @@ pub mod Cells
 pub mod Trees
 pub mod Rows
 pub mod Validity
+pub mod Growing
+pub mod Renaming
+pub mod Laws
 pub mod Agreement

@@ -18,7 +18,8 @@ use Rattle.star_value.specs.Weight.{depth}
 use Rattle.star_meaning.specs.declared.ran.Ran.{Ran}
 use Rattle.star_meaning.specs.State.{Object, AList, ADict, AFunction, State}
 use Rattle.star_meaning.specs.Values.{is_zero}
-use Rattle.star_meaning.specs.Cells.{Shown, function_in, ran}
+use Rattle.star_meaning.specs.Expressions.{Setting}
+use Rattle.star_meaning.specs.Cells.{Shown, function_in, ran, run}
 
 -- a state in which functions have the numbers of their cells, and the nodes that have run, in order
 pub record MachineState : Type 0 where
@@ -169,3 +170,12 @@ after program m node inputs allowance =
 -- how the cell ends, what it writes, and its steps
 unfoldable pub ran_at : Program → MachineState → ℕ → List (List ℕ × Input) → ℕ → Ran
 ran_at program m node inputs allowance = (ran (shown program m) (cell_of program node) inputs allowance).0
+
+-- ---- the same by numbers alone, which is what a machine does
+
+abbrev pub numbered_setting : Program → ℕ → List (List ℕ × Input) → Setting ℕ
+numbered_setting program node inputs = record { define = function_at program; cell = node; inputs = inputs }
+
+-- a node's cell in a machine's state: how it ends, and the state after it
+unfoldable pub run_at : Program → MachineState → ℕ → List (List ℕ × Input) → ℕ → Ran × State ℕ
+run_at program m node inputs allowance = run (numbered_setting program node inputs) (cell_of program node).«module» allowance m.state

@@ -1,11 +1,14 @@
 //! What cells mean.
 //!
 //! The definitions of the language's running: states, values, operations with their charges,
-//! expressions, statements, cells and programs. The files of `specs/` are read top to bottom; the
-//! functions here show by their contracts what the definitions give. Nothing here runs a cell.
+//! expressions, statements, cells and versions. The files of `specs/` are read in the order of
+//! `specs/Lib.antt`, each from top to bottom. The functions of `tables` show by their contracts what
+//! small cells do, with their steps, and those of `laws` what holds of every cell. Nothing here runs
+//! a cell.
 #![tactic(auto)]
 
 pub mod flow;
+pub mod laws;
 pub mod ran;
 pub mod tables;
 

@@ -22,4 +22,10 @@ cells_hold = record {
   eight_steps = simp layers;
   function_call = record { hold = simp layers };
   function_call_stopped = simp layers;
+  stored_key = one_cell (λ st call. simp layers);
+  appended_to_itself = one_cell (λ st call. simp layers);
+  three_printed = one_cell (λ st call. simp layers);
+  one_order = record { hold = simp layers };
+  other_order = record { hold = simp layers };
+  two_lists = record { hold = simp layers };
 }

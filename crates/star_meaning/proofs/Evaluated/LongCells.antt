@@ -20,7 +20,7 @@ use Rattle.star_meaning.specs.Showing.{Naming, quoted_in}
 use Rattle.star_meaning.specs.Expressions.{Setting, Callee, meant}
 use Rattle.star_meaning.specs.Statements.{statement_of}
 use Rattle.star_meaning.specs.Trees.{name}
-use Rattle.star_meaning.specs.Rows.LongCells.{LongCells, sales_made, total_made, total_raised, sales_added, total_shown, words, fields, joined, replaced, stripped_text, formatted_text, rest, popped, less, all_printed}
+use Rattle.star_meaning.specs.Rows.LongCells.{LongCells, x_made, y_made, x_extended, x_joined, both_printed, sales_made, total_made, total_raised, sales_added, total_shown, words, fields, joined, replaced, stripped_text, formatted_text, rest, popped, less, all_printed}
 use Rattle.star_meaning.proofs.Opened.{evaluation}
 use Rattle.star_meaning.proofs.OneCell.{one_cell}
 
@@ -106,6 +106,26 @@ module _ (st : Setting CellParts) (call : Callee CellParts) where
   unfolding evaluation
   all_is = simp (words_is, fields_is, joined_is, replaced_is, stripped_text_is, formatted_text_is, rest_is, popped_is, less_is, statement_line, meant_primary st call (name (codes "print")), meant_name st call (codes "print"), values_shown)
 
+  x_made_is : statement_of st call x_made false 0 (at [] [] [] [] 999999) ≡ Went flow.On (at ((codes "x", value.List 0) ∷ []) (AList (value.Int (pos 1) ∷ []) ∷ []) [] [] 999996)
+  unfolding evaluation
+  x_made_is = simp layers
+
+  y_made_is : statement_of st call y_made false 0 (at ((codes "x", value.List 0) ∷ []) (AList (value.Int (pos 1) ∷ []) ∷ []) [] [] 999996) ≡ Went flow.On (at ((codes "x", value.List 0) ∷ (codes "y", value.List 0) ∷ []) (AList (value.Int (pos 1) ∷ []) ∷ []) [] [] 999994)
+  unfolding evaluation
+  y_made_is = simp layers
+
+  x_extended_is : statement_of st call x_extended false 0 (at ((codes "x", value.List 0) ∷ (codes "y", value.List 0) ∷ []) (AList (value.Int (pos 1) ∷ []) ∷ []) [] [] 999994) ≡ Went flow.On (at ((codes "x", value.List 0) ∷ (codes "y", value.List 0) ∷ []) (AList (value.Int (pos 1) ∷ value.Int (pos 2) ∷ []) ∷ AList (value.Int (pos 2) ∷ []) ∷ []) [] [] 999988)
+  unfolding evaluation
+  x_extended_is = simp layers
+
+  x_joined_is : statement_of st call x_joined false 0 (at ((codes "x", value.List 0) ∷ (codes "y", value.List 0) ∷ []) (AList (value.Int (pos 1) ∷ value.Int (pos 2) ∷ []) ∷ AList (value.Int (pos 2) ∷ []) ∷ []) [] [] 999988) ≡ Went flow.On (at ((codes "x", value.List 3) ∷ (codes "y", value.List 0) ∷ []) (AList (value.Int (pos 1) ∷ value.Int (pos 2) ∷ []) ∷ AList (value.Int (pos 2) ∷ []) ∷ AList (value.Int (pos 3) ∷ []) ∷ AList (value.Int (pos 1) ∷ value.Int (pos 2) ∷ value.Int (pos 3) ∷ []) ∷ []) [] [] 999980)
+  unfolding evaluation
+  x_joined_is = simp layers
+
+  both_printed_is : statement_of st call both_printed true 0 (at ((codes "x", value.List 3) ∷ (codes "y", value.List 0) ∷ []) (AList (value.Int (pos 1) ∷ value.Int (pos 2) ∷ []) ∷ AList (value.Int (pos 2) ∷ []) ∷ AList (value.Int (pos 3) ∷ []) ∷ AList (value.Int (pos 1) ∷ value.Int (pos 2) ∷ value.Int (pos 3) ∷ []) ∷ []) [] [] 999980) ≡ Went flow.On (at ((codes "x", value.List 3) ∷ (codes "y", value.List 0) ∷ []) (AList (value.Int (pos 1) ∷ value.Int (pos 2) ∷ []) ∷ AList (value.Int (pos 2) ∷ []) ∷ AList (value.Int (pos 3) ∷ []) ∷ AList (value.Int (pos 1) ∷ value.Int (pos 2) ∷ value.Int (pos 3) ∷ []) ∷ []) [] (codes "[1, 2, 3] [1, 2]\n") 999958)
+  unfolding evaluation
+  both_printed_is = simp layers
+
 -- ---- a list that is its own item
 
 abbrev looped : State CellParts
@@ -132,5 +152,6 @@ unfolding evaluation
 long_cells_hold = record {
   sales = one_cell (λ st call. simp (dict_made, total_zero, added, shown_last, def_line, def_for));
   many = one_cell (λ st call. simp all_is);
+  extended_and_joined = one_cell (λ st call. simp (x_made_is, y_made_is, x_extended_is, x_joined_is, both_printed_is, def_line));
   itself_printed = record { hold = simp (deep_64, layers) };
 }

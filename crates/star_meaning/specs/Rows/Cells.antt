@@ -10,7 +10,7 @@ use Rattle.star_syntax.specs.declared.statement.Statement.TheVariants as s
 use Rattle.chex_base.specs.declared.input.Input.TheVariants as input
 use Rattle.star_value.specs.declared.failure.Failure.TheVariants as failure
 use Rattle.star_meaning.specs.Cells.{runs}
-use Rattle.star_meaning.specs.Trees.{Give, Writes, called, cell, chained, def, done, failed, int, line, method, name}
+use Rattle.star_meaning.specs.Trees.{Give, Writes, called, cell, chained, def, done, failed, indexed, int, line, method, name, pair}
 
 pub record Cells : Type 0 where
   --     print(1 + 2)
@@ -85,3 +85,34 @@ pub record Cells : Type 0 where
   --         return n + 1
   --     print(f(1))
   pub function_call_stopped : runs (cell (s.Def 1 (def (codes "f") ((codes "n") ∷ []) [] (blocks.Indented (line 2 (small.Return (chained level.Sum op.Add (name (codes "n")) (int 1) ∷ [])) ∷ []))) ∷ line 3 (small.Tests (called (name (codes "print")) (called (name (codes "f")) (int 1 ∷ []) ∷ []) ∷ [])) ∷ []) ∷ []) [] 13 ≡ failed [] failure.StepLimit 3 13 ∷ []
+  --     d = {"a": 1, "b": 2}
+  --     d["a"] = 3
+  --     print(d)
+  pub stored_key : Give (cell (line 1 (small.Assign (name (codes "d") ∷ []) (e.Dict (pair (e.Text (codes "a")) (int 1) ∷ pair (e.Text (codes "b")) (int 2) ∷ []) false ∷ [])) ∷ line 2 (small.Assign (indexed (name (codes "d")) (e.Text (codes "a")) ∷ []) (int 3 ∷ [])) ∷ line 3 (small.Tests (called (name (codes "print")) (name (codes "d") ∷ []) ∷ [])) ∷ []) ∷ []) (done (codes "{\"a\": 3, \"b\": 2}\n") 41 ∷ [])
+  --     x = [1, 2]
+  --     for i in x:
+  --         x.append(i)
+  pub appended_to_itself : Give (cell (line 1 (small.Assign (name (codes "x") ∷ []) (e.List (int 1 ∷ int 2 ∷ []) false ∷ [])) ∷ s.For 2 (name (codes "i") ∷ []) (name (codes "x") ∷ []) (blocks.Indented (line 3 (small.Tests (method (name (codes "x")) (codes "append") (name (codes "i") ∷ []) ∷ [])) ∷ [])) ∷ []) ∷ []) (failed [] failure.ChangedWhileIterated 3 12 ∷ [])
+  --     print("a,b".split(","), (1,), "%d%%" % 5)
+  pub three_printed : Writes (called (name (codes "print")) (method (e.Text (codes "a,b")) (codes "split") (e.Text (codes ",") ∷ []) ∷ e.Tuple (int 1 ∷ []) false ∷ chained level.Product op.Mod (e.Text (codes "%d%%")) (int 5) ∷ [])) (codes "[\"a\", \"b\"] (1,) 5%\n") 49
+  -- cell 1
+  --     x = [1]
+  --     y = [2]
+  -- cell 2
+  --     y.append(x)
+  --     print(y)
+  pub one_order : Give (cell (line 1 (small.Assign (name (codes "x") ∷ []) (e.List (int 1 ∷ []) false ∷ [])) ∷ line 2 (small.Assign (name (codes "y") ∷ []) (e.List (int 2 ∷ []) false ∷ [])) ∷ []) ∷ cell (line 1 (small.Tests (method (name (codes "y")) (codes "append") (name (codes "x") ∷ []) ∷ [])) ∷ line 2 (small.Tests (called (name (codes "print")) (name (codes "y") ∷ []) ∷ [])) ∷ []) ∷ []) (done [] 7 ∷ done (codes "[2, [1]]\n") 18 ∷ [])
+  -- cell 1
+  --     y = [2]
+  --     x = [1]
+  -- cell 2
+  --     y.append(x)
+  --     print(y)
+  pub other_order : Give (cell (line 1 (small.Assign (name (codes "y") ∷ []) (e.List (int 2 ∷ []) false ∷ [])) ∷ line 2 (small.Assign (name (codes "x") ∷ []) (e.List (int 1 ∷ []) false ∷ [])) ∷ []) ∷ cell (line 1 (small.Tests (method (name (codes "y")) (codes "append") (name (codes "x") ∷ []) ∷ [])) ∷ line 2 (small.Tests (called (name (codes "print")) (name (codes "y") ∷ []) ∷ [])) ∷ []) ∷ []) (done [] 7 ∷ done (codes "[2, [1]]\n") 18 ∷ [])
+  -- cell 1
+  --     x = [1]
+  --     y = [1]
+  -- cell 2
+  --     y.append(2)
+  --     print(x)
+  pub two_lists : Give (cell (line 1 (small.Assign (name (codes "x") ∷ []) (e.List (int 1 ∷ []) false ∷ [])) ∷ line 2 (small.Assign (name (codes "y") ∷ []) (e.List (int 1 ∷ []) false ∷ [])) ∷ []) ∷ cell (line 1 (small.Tests (method (name (codes "y")) (codes "append") (int 2 ∷ []) ∷ [])) ∷ line 2 (small.Tests (called (name (codes "print")) (name (codes "x") ∷ []) ∷ [])) ∷ []) ∷ []) (done [] 7 ∷ done (codes "[1]\n") 13 ∷ [])

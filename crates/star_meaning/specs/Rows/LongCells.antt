@@ -84,6 +84,26 @@ itself = cell (line 1 (small.Assign (name (codes "x") ∷ []) (e.List [] false �
 abbrev pub x_printed : Statement
 x_printed = line 1 (small.Tests (called (name (codes "print")) (name (codes "x") ∷ []) ∷ []))
 
+-- x = [1]
+abbrev pub x_made : Statement
+x_made = line 1 (small.Assign (name (codes "x") ∷ []) (e.List (int 1 ∷ []) false ∷ []))
+
+-- y = x
+abbrev pub y_made : Statement
+y_made = line 2 (small.Assign (name (codes "y") ∷ []) (name (codes "x") ∷ []))
+
+-- x += [2]
+abbrev pub x_extended : Statement
+x_extended = line 3 (small.Augmented (name (codes "x")) op.Add (e.List (int 2 ∷ []) false ∷ []))
+
+-- x = x + [3]
+abbrev pub x_joined : Statement
+x_joined = line 4 (small.Assign (name (codes "x") ∷ []) (chained level.Sum op.Add (name (codes "x")) (e.List (int 3 ∷ []) false) ∷ []))
+
+-- print(x, y)
+abbrev pub both_printed : Statement
+both_printed = line 5 (small.Tests (called (name (codes "print")) (name (codes "x") ∷ name (codes "y") ∷ []) ∷ []))
+
 pub record LongCells : Type 0 where
   -- the dict takes 27, with its statement 28; the number 2; the loop 2 and 23 for each of its two turns; the last line 4
   pub sales : Give (cell (sales_made ∷ total_made ∷ sales_added ∷ total_shown ∷ []) ∷ []) (done (codes "8\n") 83 ∷ [])
@@ -91,3 +111,5 @@ pub record LongCells : Type 0 where
   pub many : Give (cell (all_printed ∷ []) ∷ []) (done (codes "[\"a\", \"b\"] [\"a\", \"b\"] a,b cbc x 1 (2, 3) 1 True\n") 160 ∷ [])
   -- a list in itself: 64 brackets are written, and the list inside 64 others is not
   pub itself_printed : Give (itself ∷ cell (x_printed ∷ []) ∷ []) (done [] 7 ∷ failed [] failure.TooDeep 1 69 ∷ [])
+  -- the lists 3, the second name 2, the extended list 6, the joined one 8, the printed line 22
+  pub extended_and_joined : Give (cell (x_made ∷ y_made ∷ x_extended ∷ x_joined ∷ both_printed ∷ []) ∷ []) (done (codes "[1, 2, 3] [1, 2]\n") 42 ∷ [])

@@ -1,0 +1,44 @@
+-- Laws of running.
+use Rattle.std.specs.Prelude.{◌≡◌, ℕ, List, [], ◌∷◌, ◌++◌}
+use Rattle.chex_base.specs.declared.input.Input.{Input}
+use Rattle.star_syntax.specs.declared.cell.Program.{Program}
+use Rattle.star_syntax.specs.CellParts.{CellParts}
+use Rattle.star_value.specs.declared.failure.Failure.TheVariants.{TooManyCalls}
+use Rattle.star_value.specs.declared.value.Value.{Value}
+use Rattle.star_meaning.specs.Steps.{Failed}
+use Rattle.star_meaning.specs.Builtins.{ByName}
+use Rattle.star_meaning.specs.World.{World}
+use Rattle.star_meaning.specs.Expressions.{Setting}
+use Rattle.star_meaning.specs.Statements.{call_to}
+use Rattle.star_meaning.specs.Cells.{Shown, ran}
+use Rattle.star_meaning.specs.Growing.{Grown}
+use Rattle.star_meaning.specs.Renaming.{state_as}
+use Rattle.star_meaning.specs.Validity.{MachineState, after, cell_of, ran_at, run_at, shown}
+
+-- no meaning depends on how cells are numbered: what a cell does in a shown state is what it does by numbers, shown
+abbrev pub NumbersDoNotMatter : Type 0
+NumbersDoNotMatter = (program : Program) (m : MachineState) (node : ℕ) (inputs : List (List ℕ × Input)) (allowance : ℕ)
+    → ran (shown program m) (cell_of program node) inputs allowance ≡ ((run_at program m node inputs allowance).0, state_as (cell_of program) (run_at program m node inputs allowance).1)
+
+-- a machine that runs a cell by numbers reaches the machine state after the cell
+abbrev pub NumbersReachAfter : Type 0
+NumbersReachAfter = (program : Program) (m : MachineState) (node : ℕ) (inputs : List (List ℕ × Input)) (allowance : ℕ)
+    → after program m node inputs allowance ≡ record { state = (run_at program m node inputs allowance).1; ran = m.ran ++ node ∷ [] }
+
+-- and ends, writes and takes steps as the cell does
+abbrev pub NumbersEndAlike : Type 0
+NumbersEndAlike = (program : Program) (m : MachineState) (node : ℕ) (inputs : List (List ℕ × Input)) (allowance : ℕ)
+    → ran_at program m node inputs allowance ≡ (run_at program m node inputs allowance).0
+
+-- the machine state after a cell shows the meaning's state
+abbrev pub AfterShowsTheMeaning : Type 0
+AfterShowsTheMeaning = (program : Program) (m : MachineState) (node : ℕ) (inputs : List (List ℕ × Input)) (allowance : ℕ)
+    → shown program (after program m node inputs allowance) ≡ (ran (shown program m) (cell_of program node) inputs allowance).1
+
+-- a function keeps its cell, and every other function of the state after a cell has this cell
+abbrev pub FunctionsStay : Type 0
+FunctionsStay = (s : Shown) (cell : CellParts) (inputs : List (List ℕ × Input)) (allowance : ℕ) → Grown cell s.objects (ran s cell inputs allowance).1.objects
+
+-- where 32 functions are active no further call of a function has room
+abbrev pub CallsAreFew : Type 0
+CallsAreFew = (setting : Setting CellParts) (id : ℕ) (vs : List Value) (named : ByName) (w : World CellParts) → call_to setting 0 id vs named w ≡ Failed TooManyCalls w

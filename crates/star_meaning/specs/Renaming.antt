@@ -1,0 +1,64 @@
+-- States in which cells have other names.
+use Rattle.std.specs.Prelude.{◌≡◌, ℕ, List, map}
+use Rattle.star_meaning.specs.State.{State}
+use Rattle.star_meaning.specs.Steps.{Outcome, Went, Failed, Steps, Store, Action}
+use Rattle.star_value.specs.declared.value.Value.{Value}
+use Rattle.star_meaning.specs.Builtins.{ByName}
+use Rattle.star_meaning.specs.World.{World, Work}
+use Rattle.star_meaning.specs.Expressions.{Setting, Callee, Meant}
+use Rattle.star_meaning.specs.Growing.{Grown}
+use Rattle.star_meaning.specs.Validity.{renamed}
+
+-- other names for cells, and the cell that runs
+pub record Names (C D : Type 0) : Type 0 where
+  pub to : C → D
+  pub here : C
+
+module _ {C D : Type 0} (name : C → D) where
+  abbrev pub state_as : State C → State D
+  state_as s = record { globals = s.globals; objects = map (renamed name) s.objects }
+
+  abbrev pub store_as : Store C → Store D
+  store_as s = record { state = state_as s.state; left = s.left }
+
+  abbrev pub world_as : World C → World D
+  world_as w = record { store = store_as w.store; frame = w.frame; out = w.out }
+
+-- an outcome in other states
+abbrev pub outcome_as : {W V E A : Type 0} → (W → V) → Outcome W E A → Outcome V E A
+outcome_as f (Went a w) = Went a (f w)
+outcome_as f (Failed e w) = Failed e (f w)
+
+-- what is reached
+abbrev pub reached : {W E A : Type 0} → Outcome W E A → W
+reached (Went a w) = w
+reached (Failed e w) = w
+
+-- an operation and its counterpart do the same in states that are alike but for the names of cells, and objects stay what
+-- they must
+pub record Same {C D A : Type 0} (name : Names C D) (p : Action C A) (q : Action D A) : Type 0 where
+  pub holds : (s : Store C) → q (store_as name.to s) ≡ outcome_as (store_as name.to) (p s)
+  pub keeps : (s : Store C) → Grown name.here s.state.objects (reached (p s)).state.objects
+
+-- the same of the steps of expressions and statements
+pub record SameSteps {C D E A : Type 0} (name : Names C D) (p : Steps (World C) E A) (q : Steps (World D) E A) : Type 0 where
+  pub holds : (w : World C) → q (world_as name.to w) ≡ outcome_as (world_as name.to) (p w)
+  pub keeps : (w : World C) → Grown name.here w.store.state.objects (reached (p w)).store.state.objects
+
+-- the same of what does not change while a cell runs, of calls of functions, and of the meanings of trees
+pub record SameSetting {C D : Type 0} (name : Names C D) (st : Setting C) (su : Setting D) : Type 0 where
+  pub define : (c : C) (n : ℕ) → su.define (name.to c) n ≡ st.define c n
+  pub here : st.cell ≡ name.here
+  pub cell : su.cell ≡ name.to st.cell
+  pub inputs : su.inputs ≡ st.inputs
+
+abbrev pub SameCallee : {C D : Type 0} → Names C D → Callee C → Callee D → Type 0
+SameCallee name c d = (id : ℕ) (vs : List Value) (by_name : ByName) → SameSteps name (c id vs by_name) (d id vs by_name)
+
+pub record SameMeant {C D : Type 0} (name : Names C D) (m : Meant C) (n : Meant D) : Type 0 where
+  pub value : SameSteps name m.value n.value
+  pub store : (v : Value) → SameSteps name (m.store v) (n.store v)
+  pub update : (f : Value → Work C Value) (g : Value → Work D Value) → ((v : Value) → SameSteps name (f v) (g v)) → SameSteps name (m.update f) (n.update g)
+  pub names : n.names ≡ m.names
+  pub is_input : n.is_input ≡ m.is_input
+  pub literal : n.literal ≡ m.literal

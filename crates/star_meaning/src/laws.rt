@@ -1,0 +1,34 @@
+//! Laws of running, as the contracts of functions.
+ghost use Rattle.star_meaning.specs.Laws as laws;
+
+/// No meaning depends on how cells are numbered.
+#[tactic(auto, using(crate::proofs::RenamedCells::ran_by_numbers))]
+pub fn numbers_do_not_matter()
+    ensures { laws.NumbersDoNotMatter }
+{}
+
+/// A machine that runs a cell by numbers reaches the machine state after the cell, and ends as the
+/// cell does.
+#[tactic(auto, using(crate::proofs::RenamedCells::after_by_numbers, crate::proofs::RenamedCells::ran_at_by_numbers))]
+pub fn numbers_reach_after()
+    ensures state { laws.NumbersReachAfter }
+    ensures end { laws.NumbersEndAlike }
+{}
+
+/// The machine state after a cell shows the meaning's state.
+#[tactic(auto, using(crate::proofs::RenamedCells::after_shows))]
+pub fn after_shows_the_meaning()
+    ensures { laws.AfterShowsTheMeaning }
+{}
+
+/// A function keeps its cell, and every other function of the state after a cell has this cell.
+#[tactic(auto, using(crate::proofs::RenamedCells::shown_grows))]
+pub fn functions_stay()
+    ensures { laws.FunctionsStay }
+{}
+
+/// Where 32 functions are active no further call of a function has room.
+#[tactic(auto, unfolding(crate::specs::Statements::call_to))]
+pub fn calls_are_few()
+    ensures { laws.CallsAreFew }
+{}
