@@ -85,14 +85,26 @@ fn guarded(
     Ok(Statement::If(line, first, Items::new(alloc), None))
 }
 
+/// A list of one name.
+fn names(alloc: Global, of: &str) -> Result<Items<Expr>, NoMemory> {
+    one(alloc, name(alloc, of)?)
+}
+
+/// `for` of targets in `x`, and a block.
+fn turned(
+    alloc: Global,
+    line: u32,
+    targets: Items<Expr>,
+    body: Block<Statement>,
+) -> Result<Statement, NoMemory> {
+    let over = names(alloc, "x")?;
+    Ok(Statement::For(line, targets, over, body))
+}
+
 /// `for i in x`, and a block of one statement.
 fn turns(alloc: Global, line: u32, inner: Statement) -> Result<Statement, NoMemory> {
-    Ok(Statement::For(
-        line,
-        one(alloc, name(alloc, "i")?)?,
-        one(alloc, name(alloc, "x")?)?,
-        Block::Indented(one(alloc, inner)?),
-    ))
+    let body = Block::Indented(one(alloc, inner)?);
+    turned(alloc, line, names(alloc, "i")?, body)
 }
 
 /// A function of two parameters without defaults and one with a default.
@@ -148,19 +160,22 @@ fn answer(alloc: Global, module: Module) -> Result<String, Fail> {
     Ok(out)
 }
 
+/// A function whose third parameter has this name.
+fn with_parameter(alloc: Global, line: u32, third: &str) -> Result<Statement, NoMemory> {
+    let pass = small(alloc, line, SmallKind::Pass)?;
+    function(alloc, line, ["f", "a", "b", third], Expr::None, pass)
+}
+
 /// A statement that breaks one rule: in the block of an `if` at one line, or at the other line.
 fn broken(alloc: Global, kind: ResolveKind, outer: u32, line: u32) -> Result<Statement, NoMemory> {
-    let pass = small(alloc, line, SmallKind::Pass)?;
     let inner = match kind {
-        ResolveKind::NestedDef => { function(alloc, line, ["f", "a", "b", "c"], Expr::None, pass)? }
+        ResolveKind::NestedDef => with_parameter(alloc, line, "c")?,
         ResolveKind::MisplacedReturn => {
             small(alloc, line, SmallKind::Return(Items::new(alloc)))?
         }
         ResolveKind::MisplacedBreak => small(alloc, line, SmallKind::Break)?,
         ResolveKind::InputNotLiteral => alone(alloc, line, name(alloc, "input")?)?,
-        ResolveKind::RepeatedParameter => {
-            return function(alloc, line, ["f", "a", "b", "a"], Expr::None, pass);
-        }
+        ResolveKind::RepeatedParameter => return with_parameter(alloc, line, "a"),
     };
     guarded(alloc, outer, Expr::True, inner)
 }
@@ -236,38 +251,63 @@ fn input_after_elif(alloc: Global) -> Result<Module, NoMemory> {
     lone(alloc, Statement::If(1, first, one(alloc, second)?, None))
 }
 
-/// `x.input("a")` and `f("b", input=1)`
-fn input_as_method_and_argument(alloc: Global) -> Result<Module, NoMemory> {
-    let method = Suffix::Method(
-        text(alloc, "input")?,
-        given(one(alloc, literal(alloc, "a")?)?, alloc, false),
-    );
-    let first = Expr::Primary(Boxed::new(alloc, name(alloc, "x")?)?, one(alloc, method)?);
-    let named = Arguments {
-        positional: one(alloc, literal(alloc, "b")?)?,
-        named: one(
-            alloc,
-            Named {
-                name: text(alloc, "input")?,
-                value: Expr::Int(1),
-            },
-        )?,
-        comma: false,
-    };
-    let second = Expr::Primary(
-        Boxed::new(alloc, name(alloc, "f")?)?,
-        one(alloc, Suffix::Call(named))?,
-    );
-    cell(alloc, alone(alloc, 1, first)?, alone(alloc, 2, second)?)
+/// A name with a suffix.
+fn suffixed(alloc: Global, of: &str, suffix: Suffix<Expr>) -> Result<Expr, NoMemory> {
+    let suffixes = one(alloc, suffix)?;
+    let head = Boxed::new(alloc, name(alloc, of)?)?;
+    Ok(Expr::Primary(head, suffixes))
 }
 
-/// `x = input("b"), input("é")` and `[input("a") for i in input("b")]`
-fn names_that_rise(alloc: Global) -> Result<Module, NoMemory> {
+/// `x.input("a")`
+fn method_input(alloc: Global) -> Result<Expr, NoMemory> {
+    let arguments = given(one(alloc, literal(alloc, "a")?)?, alloc, false);
+    let method = Suffix::Method(text(alloc, "input")?, arguments);
+    suffixed(alloc, "x", method)
+}
+
+/// `f("b", input=1)`
+fn argument_input(alloc: Global) -> Result<Expr, NoMemory> {
+    let value = Named {
+        name: text(alloc, "input")?,
+        value: Expr::Int(1),
+    };
+    let named = one(alloc, value)?;
+    let positional = one(alloc, literal(alloc, "b")?)?;
+    let arguments = Arguments {
+        positional,
+        named,
+        comma: false,
+    };
+    suffixed(alloc, "f", Suffix::Call(arguments))
+}
+
+/// `x.input("a")` and `f("b", input=1)`
+fn input_as_method_and_argument(alloc: Global) -> Result<Module, NoMemory> {
+    let first = alone(alloc, 1, method_input(alloc)?)?;
+    let second = alone(alloc, 2, argument_input(alloc)?)?;
+    cell(alloc, first, second)
+}
+
+/// `x = input("é"), input("b")`
+fn names_assigned(alloc: Global) -> Result<Statement, NoMemory> {
     let values = two(alloc, input(alloc, "é")?, input(alloc, "b")?)?;
-    let first = SmallKind::Assign(one(alloc, name(alloc, "x")?)?, values);
-    let clause = Clause::For(one(alloc, name(alloc, "i")?)?, input(alloc, "b")?);
-    let list = Expr::ListOver(Boxed::new(alloc, input(alloc, "a")?)?, one(alloc, clause)?);
-    cell(alloc, small(alloc, 1, first)?, alone(alloc, 2, list)?)
+    let targets = names(alloc, "x")?;
+    small(alloc, 1, SmallKind::Assign(targets, values))
+}
+
+/// `[input("a") for i in input("b")]`
+fn names_listed(alloc: Global) -> Result<Statement, NoMemory> {
+    let targets = names(alloc, "i")?;
+    let clauses = one(alloc, Clause::For(targets, input(alloc, "b")?))?;
+    let item = Boxed::new(alloc, input(alloc, "a")?)?;
+    alone(alloc, 2, Expr::ListOver(item, clauses))
+}
+
+/// `x = input("é"), input("b")` and `[input("a") for i in input("b")]`
+fn names_that_rise(alloc: Global) -> Result<Module, NoMemory> {
+    let first = names_assigned(alloc)?;
+    let second = names_listed(alloc)?;
+    cell(alloc, first, second)
 }
 
 /// `input = 1`
