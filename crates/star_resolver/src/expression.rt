@@ -112,16 +112,10 @@ pub fn expr(alloc: Global, line: u32, found: &mut Texts, tree: &Expr) -> Result<
     ensures { Gives (spec.scan line tree.now found.old) result found.new }
 {
     match tree {
-        Expr::Name(name) => {
-            if is_input(name) {
-                return Err(ResolveKind::InputNotLiteral.at(line));
-            }
-            Ok(())
-        }
+        Expr::Name(name) if is_input(name) => Err(ResolveKind::InputNotLiteral.at(line)),
+        Expr::Name(_) => Ok(()),
         Expr::Int(_) | Expr::Text(_) | Expr::None | Expr::True | Expr::False => Ok(()),
-        Expr::Tuple(items, _) | Expr::List(items, _) => {
-            exprs(alloc, line, found, items.as_slice())
-        }
+        Expr::Tuple(all, _) | Expr::List(all, _) => exprs(alloc, line, found, all.as_slice()),
         Expr::ListOver(item, over) => {
             expr(alloc, line, found, item.get())?;
             clauses(alloc, line, found, over.as_slice())
