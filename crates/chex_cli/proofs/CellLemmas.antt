@@ -34,15 +34,15 @@ pub points : (source text : List ℕ) → text ≡ encode_utf8_all source → al
 points source text bytes scalars = ap chars bytes ∙ chars-encodes source scalars
 
 -- the tree of the one is that of the other
-moved_tree : (source : List ℕ) (a b : List Spanned) (tree : Module) → Tokens source a → Tokens source b → IsTree tree a → IsTree tree b
+pub moved_tree : (source : List ℕ) (a b : List Spanned) (tree : Module) → Tokens source a → Tokens source b → IsTree tree a → IsTree tree b
 moved_tree source a b tree h k is = subst (λ list. IsTree tree list) (one_list source a b h k) is
 
 -- where there is a tree, no token is the first with which none goes on
-least_apart : (tree : Module) (list : List Spanned) (place : ℕ) → IsTree tree list → IsLeast place (kinds list) → ⊥
+pub least_apart : (tree : Module) (list : List Spanned) (place : ℕ) → IsTree tree list → IsLeast place (kinds list) → ⊥
 least_apart tree list place is least =
     least.dead (tree, drop (place + 1) (kinds list), is.0, tree_kinds tree list is ∙ sym (take-append-drop (place + 1) (kinds list)))
 
-cell_apart : (source : List ℕ) (cell : CellParts) (why : Reason) (line : ℕ) → IsCellOf source cell → IsWrong source why line → ⊥
+pub cell_apart : (source : List ℕ) (cell : CellParts) (why : Reason) (line : ℕ) → IsCellOf source cell → IsWrong source why line → ⊥
 cell_apart source cell (reason.Token kind) line is wrong = never_both source (is.list, is.tokens) (kind, line, wrong)
 cell_apart source cell reason.Unexpected line is wrong =
     least_apart cell.module wrong.0 wrong.2.place (moved_tree source is.list wrong.0 cell.module is.tokens wrong.1 is.tree) wrong.2.least
@@ -52,7 +52,7 @@ cell_apart source cell (reason.Placement kind) line is wrong =
     let first : slice_get [] 0 ≡ Some (breach_of kind, line) = ap (λ xs. slice_get xs 0) none ∙ wrong.4 in
     cc
 
-version_apart : (bad : BadCell) (version : Version) (run : Runnable) → IsRunnable version run → IsBadIn version bad → ⊥
+pub version_apart : (bad : BadCell) (version : Version) (run : Runnable) → IsRunnable version run → IsBadIn version bad → ⊥
 version_apart bad version run is wrong =
     first_apart {C = Reason × ℕ} IsCellOf (λ source p. IsWrong source p.0 p.1) version.sources run.cells bad.cell (bad.reason, bad.line) (λ source cell. cell_apart source cell bad.reason bad.line) is.1 wrong.1
 
@@ -70,11 +70,13 @@ first_version versions i made version sources (cells.Bad cell why line) result i
     let bad : BadCell = record { name = version.name; cell = cell; reason = why; line = line } in
     subst (IsFirstIn versions) (sym named) (i + 1, first_here IsRunnable IsBadIn versions i made version bad inside here fine (refl, subst (λ xs. IsFirstSource xs cell why line) same first))
 
+-- the cells of a source have one tree
+pub same_tree : (source : List ℕ) (a b : CellParts) → IsCellOf source a → IsCellOf source b → a.module ≡ b.module
+same_tree source a b h k = tree_once k.list a.module b.module (moved_tree source h.list k.list a.module h.tokens k.tokens h.tree) k.tree
+
 -- whether the cells are thin does not depend on who made them
 cell_same : (source : List ℕ) (a b : CellParts) → IsCellOf source a → IsCellOf source b → is_thin_cell a ≡ is_thin_cell b
-cell_same source a b h k =
-    let same : a.module ≡ b.module = tree_once k.list a.module b.module (moved_tree source h.list k.list a.module h.tokens k.tokens h.tree) k.tree in
-    ap is_thin same
+cell_same source a b h k = ap is_thin (same_tree source a b h k)
 
 cells_same : (sources : List (List ℕ)) (a b : List CellParts) → AllZip IsCellOf sources a → AllZip IsCellOf sources b → list_all is_thin_cell a ≡ list_all is_thin_cell b
 cells_same [] [] [] h k = refl

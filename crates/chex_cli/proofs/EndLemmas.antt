@@ -59,6 +59,35 @@ due_write_fault told words status text is h = elim is [
   | inr (inr (inr why)) ↦ refusal_write_fault why.why (sym why.status_is ∙ h)
 ]
 
+file_no_memory : (fault : NbFault) → file_status fault ≡ ended.NoMemory → ⊥
+file_no_memory broken.NotJson h = cc
+file_no_memory broken.NotObject h = cc
+file_no_memory (broken.WrongFormat found) h = cc
+file_no_memory broken.NoCells h = cc
+file_no_memory (broken.BadCell index) h = cc
+file_no_memory broken.NoVersions h = cc
+file_no_memory (broken.BadVersion index) h = cc
+file_no_memory (broken.RepeatedName name) h = cc
+file_no_memory (broken.BadInput name) h = cc
+file_no_memory (broken.TooMany what count) h = cc
+file_no_memory broken.NoMemory h = cc
+
+refusal_no_memory : (r : Refusal) → r ≢ NoMemory → status_of r ≡ ended.NoMemory → ⊥
+refusal_no_memory Usage some h = cc
+refusal_no_memory (Absent file) some h = cc
+refusal_no_memory (ReadFailed file) some h = cc
+refusal_no_memory (BadFile file fault) some h = file_no_memory fault h
+refusal_no_memory NoMemory some h = some refl
+
+-- where memory was wanting, no text is due
+pub due_no_memory : (told : Option Told) (words : List (List ℕ)) (status : Status) (text : List ℕ) → IsDue told words status text → status ≡ ended.NoMemory → ⊥
+due_no_memory told words status text is h = elim is [
+  | inl run ↦ let both : ended.Done ≡ ended.NoMemory = sym run.0 ∙ h in cc
+  | inr (inl not) ↦ let both : ended.NotBuilt ≡ ended.NoMemory = sym not.0 ∙ h in cc
+  | inr (inr (inl bad)) ↦ let both : ended.BadCell ≡ ended.NoMemory = sym bad.0 ∙ h in cc
+  | inr (inr (inr why)) ↦ refusal_no_memory why.why why.some (sym why.status_is ∙ h)
+]
+
 -- counts, by the status of a refusal
 file_absent : (fault : NbFault) → file_status fault ≡ ended.Absent → ⊥
 file_absent broken.NotJson h = cc
@@ -144,7 +173,7 @@ job_some headed (run ∷ runs) thin h =
     by one more None is none = mapped_some (λ text. front headed run.name ++ text) (version_text 1 [] run.cells) (version_some 1 [] run.cells one) is
     by one more (Some text) is none = mapped_some (λ rest. text ++ rest) (job_text headed runs) more none
 
-same_job : (i j : Job) (x : Result Job Refusal) → x ≡ Ok i → x ≡ Ok j → i ≡ j
+pub same_job : (i j : Job) (x : Result Job Refusal) → x ≡ Ok i → x ≡ Ok j → i ≡ j
 same_job i j x h k = cc
 
 -- what a decision yields where the files are told

@@ -2,6 +2,8 @@ pub mod ReadLemmas
 pub mod ZipLemmas
 pub mod FirstLemmas
 pub mod CellLemmas
+pub mod WrongLemmas
 pub mod KnownLemmas
 pub mod TextLemmas
 pub mod EndLemmas
+pub mod OnceLemmas

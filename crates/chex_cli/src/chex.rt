@@ -1,6 +1,6 @@
 //! The top call.
-ghost use Rattle.std.specs.Prelude.{◌≡◌, None, Ok, Err, true, false, IfSome, List, map, string_bytes};
-ghost use Rattle.chex_base.specs.Outside.{Rose};
+ghost use Rattle.std.specs.Prelude.{◌≡◌, ◌≢◌, None, Some, Ok, Err, true, false, IfSome, List, map, string_bytes};
+ghost use Rattle.chex_base.specs.Outside.{Rose, GrewBy};
 ghost use Rattle.chex_cli.specs.Due.{due};
 ghost use Rattle.chex_cli.specs.Ends.{IsDue, Wrote, Yields};
 ghost use Rattle.chex_cli.specs.Refusals.{status_of};
@@ -33,6 +33,9 @@ pub fn chex<L: Library, W: Sink>(
 ) -> Finish
     // What was written is the text that is due with the status; at `WriteFault` a front of a text that was due.
     ensures wrote { Wrote (IsDue (L.files library.old) (map string_bytes words.now)) result.status (W.held out.old) (W.held out.new) }
+    // Over a library that tells its files, one text at most is due with a status but that of a failed read: what was written is that text.
+    ensures exact { IfSome (L.files library.old) (λ file. (text : _) → IsDue (Some file) (map string_bytes words.now) result.status text → result.status ≢ Status.ReadFault
+        → GrewBy text (W.held out.old) (W.held out.new)) }
     // A fault of the outside comes only where its count rose.
     ensures absent { result.status ≡ Status.Absent → Rose (L.absences library.old) (L.absences library.new) }
     ensures read { result.status ≡ Status.ReadFault → Rose (L.faults library.old) (L.faults library.new) }

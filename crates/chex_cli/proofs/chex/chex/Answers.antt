@@ -1,9 +1,15 @@
-use Rattle.std.proofs.Common.{map, string_bytes, refl, inl, inr}
-use Rattle.chex_cli.proofs.EndLemmas.{due_write_fault, all_some, told_refused, told_bad_cell, told_not_built, told_done}
+use Rattle.std.proofs.Common.{Some, map, string_bytes, refl, inl, inr}
+use Rattle.chex_base.specs.declared.status.Status.TheVariants as ended
+use Rattle.chex_cli.proofs.EndLemmas.{due_no_memory, due_write_fault, all_some, told_refused, told_bad_cell, told_not_built, told_done}
+use Rattle.chex_cli.proofs.OnceLemmas.{told_once}
 use Rattle.chex_cli.proofs.chex.chex.Goals as goal
 
 pub returns-in-Err-clause-wrote : goal.returns-in-Err-clause-wrote
 returns-in-Err-clause-wrote g c = inl (refl, refl)
+
+pub returns-in-Err-clause-exact : goal.returns-in-Err-clause-exact
+returns-in-Err-clause-exact g c =
+    all_some (g.L.Library.files c.args.library.now) _ (λ file text is sure. absurd (due_no_memory (Some file) (map string_bytes c.args.words.now) ended.NoMemory text is refl))
 
 pub returns-in-Err-clause-usage : goal.returns-in-Err-clause-usage
 returns-in-Err-clause-usage g c = λ none. inr (inl refl)
@@ -23,6 +29,11 @@ returns-in-Err-clause-done g c = all_some (g.L.Library.files c.args.library.now)
 pub returns-in-Ok-write-clause-wrote : goal.returns-in-Ok-write-clause-wrote
 returns-in-Ok-write-clause-wrote g c =
     inr (inr (string_bytes c.in-Ok.decision.text, c.in-Ok.ensures.due, rw (← c.as_bytes.ensures.value) c.in-Ok-write.ensures.held))
+
+pub returns-in-Ok-write-clause-exact : goal.returns-in-Ok-write-clause-exact
+returns-in-Ok-write-clause-exact g c =
+    told_once (g.L.Library.files c.args.library.now) (map string_bytes c.args.words.now) c.in-Ok.decision.status (string_bytes c.in-Ok.decision.text) _ _ c.in-Ok.ensures.due
+    (rw (← c.as_bytes.ensures.value) c.in-Ok-write.ensures.held)
 
 pub returns-in-Ok-write-clause-write : goal.returns-in-Ok-write-clause-write
 returns-in-Ok-write-clause-write g c = λ h.
@@ -50,3 +61,7 @@ returns-in-Ok-write-clause-done g c =
 pub returns-clause-wrote : goal.returns-clause-wrote
 returns-clause-wrote g c =
     inr (inl (refl, c.in-Ok.decision.status, string_bytes c.in-Ok.decision.text, c.in-Ok.ensures.due, rw (← c.as_bytes.ensures.value) c.in-Err-write.ensures.held))
+
+pub returns-clause-exact : goal.returns-clause-exact
+returns-clause-exact g c =
+    all_some (g.L.Library.files c.args.library.now) _ (λ file text is sure. absurd (due_write_fault (Some file) (map string_bytes c.args.words.now) ended.WriteFault text is refl))
