@@ -1,5 +1,5 @@
 -- One thing at most is wrong with a source, on one line.
-use Rattle.std.proofs.Common.{◌≡◌, ◌≤◌, ◌<◌, ◌+◌, ℕ, List, ◌++◌, take, drop, Option, Some, sym, ◌∙◌, ap, subst, refl, arith, append_assoc}
+use Rattle.std.proofs.Common.{◌≡◌, ◌≤◌, ◌<◌, ◌+◌, ℕ, List, ◌++◌, take, drop, Some, sym, ◌∙◌, ap, subst, refl, arith, append_assoc}
 use Rattle.std.specs.Prelude.{option_map}
 use Rattle.std.specs.List.{slice_get}
 use Rattle.std.proofs.lemmas.List.{take-append-drop, take-take}
@@ -25,9 +25,12 @@ use Rattle.chex_cli.proofs.CellLemmas.{moved_tree, least_apart}
 begins_before : (tokens : Tokens) (m n : ℕ) → m ≤ n → Begins (take n tokens) → Begins (take m tokens)
 begins_before tokens m n before (cell, more, levelled, spelt) =
     let front : take n tokens ≡ take m tokens ++ drop m (take n tokens) =
-    sym (take-append-drop m (take n tokens)) ∙ ap (λ first. first ++ drop m (take n tokens)) (take-take m n tokens before) in
-    (cell, drop m (take n tokens) ++ more, levelled,
-    spelt ∙ ap (λ first. first ++ more) front ∙ append_assoc (take m tokens) (drop m (take n tokens)) more)
+    sym (take-append-drop m (take n tokens)) ∙ ap (λ first. first ++ drop m (take n tokens)) (take-take m n tokens before) in (
+      cell,
+      drop m (take n tokens) ++ more,
+      levelled,
+      spelt ∙ ap (λ first. first ++ more) front ∙ append_assoc (take m tokens) (drop m (take n tokens)) more,
+    )
 
 not_before : (tokens : Tokens) (m n : ℕ) → IsLeast m tokens → IsLeast n tokens → m < n → ⊥
 not_before tokens m n one other before = one.dead (begins_before tokens (m + 1) n (omega arith) other.viable)
