@@ -1,0 +1,5 @@
+pub mod Tested
+pub mod PairLemmas
+pub mod References
+pub mod Kept
+pub mod Fitting

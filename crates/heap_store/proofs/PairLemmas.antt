@@ -1,0 +1,196 @@
+-- What a key's place says of the pairs of a dict, and what stays of them when a pair is put or taken out.
+use Rattle.std.proofs.Common.{◌≡◌, ℕ, suc, zero, ◌+◌, ◌<◌, ◌≤◌, Bool, true, false, not, ◌&&◌, ◌||◌, cond, List, [], ◌∷◌, ◌++◌, length, refl, sym, ap, ◌∙◌, arith, IsTrue, Option, Some, None, take, drop, get_or, slice_get, slice_set, add-one}
+use Rattle.std.proofs.lemmas.Option.{slice_get-get_or}
+use Rattle.std.specs.List.{list_all, list_any, remove}
+use Rattle.star_value.specs.declared.key.Key.{Key}
+use Rattle.star_value.specs.declared.value.Value.{Value}
+use Rattle.star_value.specs.KeyLaws.{same_key_equiv}
+use Rattle.star_value.specs.KeyOrder.{same_key}
+use Rattle.star_meaning.specs.State.{dict_get, dict_put, dict_without}
+use Rattle.star_meaning.specs.Validity.{are_distinct}
+use Rattle.heap_store.specs.Places.{place_of}
+use Rattle.heap_store.proofs.Tested.{and_left, and_right, and_both}
+
+abbrev pub Pairs : Type 0
+Pairs = List (Key × Value)
+
+-- ---- the place of a key
+
+module _ (key : Key) where
+  got_here : (pair : Key × Value) (pairs : Pairs) (b : Bool) (d : Key × Value) → cond b 0 (place_of pairs key + 1) < suc (length pairs)
+      → (place_of pairs key < length pairs → dict_get pairs key ≡ Some (get_or pairs (place_of pairs key) d).1)
+      → cond b (Some pair.1) (dict_get pairs key) ≡ Some (get_or (pair ∷ pairs) (cond b 0 (place_of pairs key + 1)) d).1
+  got_here pair pairs true d within more = refl
+  got_here pair pairs false d within more = rw add-one (more (omega arith))
+
+  pub got_at : (pairs : Pairs) (d : Key × Value) → place_of pairs key < length pairs → dict_get pairs key ≡ Some (get_or pairs (place_of pairs key) d).1
+  unfolding dict_get
+  got_at [] d within = absurd (omega arith)
+  got_at (pair ∷ pairs) d within = got_here pair pairs (same_key key pair.0) d within (got_at pairs d)
+
+  none_here : (pair : Key × Value) (pairs : Pairs) (b : Bool) → suc (length pairs) ≤ cond b 0 (place_of pairs key + 1)
+      → (length pairs ≤ place_of pairs key → dict_get pairs key ≡ None) → cond b (Some pair.1) (dict_get pairs key) ≡ None
+  none_here pair pairs true past more = absurd (omega arith)
+  none_here pair pairs false past more = more (omega arith)
+
+  pub none_at : (pairs : Pairs) → length pairs ≤ place_of pairs key → dict_get pairs key ≡ None
+  unfolding dict_get
+  none_at [] past = refl
+  none_at (pair ∷ pairs) past = none_here pair pairs (same_key key pair.0) past (none_at pairs)
+
+  without_here : (pair : Key × Value) (pairs : Pairs) (b : Bool) → cond b 0 (place_of pairs key + 1) < suc (length pairs)
+      → (place_of pairs key < length pairs → remove pairs (place_of pairs key) ≡ dict_without pairs key)
+      → remove (pair ∷ pairs) (cond b 0 (place_of pairs key + 1)) ≡ cond b pairs (pair ∷ dict_without pairs key)
+  without_here pair pairs true within more = refl
+  without_here pair pairs false within more = rw add-one (ap (λ all. pair ∷ all) (more (omega arith)))
+
+  pub without_at : (pairs : Pairs) → place_of pairs key < length pairs → remove pairs (place_of pairs key) ≡ dict_without pairs key
+  unfolding dict_without
+  without_at [] within = absurd (omega arith)
+  without_at (pair ∷ pairs) within = without_here pair pairs (same_key key pair.0) within (without_at pairs)
+
+  same_here : (pair : Key × Value) (pairs : Pairs) (b : Bool) → suc (length pairs) ≤ cond b 0 (place_of pairs key + 1)
+      → (length pairs ≤ place_of pairs key → pairs ≡ dict_without pairs key) → pair ∷ pairs ≡ cond b pairs (pair ∷ dict_without pairs key)
+  same_here pair pairs true past more = absurd (omega arith)
+  same_here pair pairs false past more = ap (λ all. pair ∷ all) (more (omega arith))
+
+  pub same_at : (pairs : Pairs) → length pairs ≤ place_of pairs key → pairs ≡ dict_without pairs key
+  unfolding dict_without
+  same_at [] past = refl
+  same_at (pair ∷ pairs) past = same_here pair pairs (same_key key pair.0) past (same_at pairs)
+
+  module _ (v : Value) where
+    set_here : (pair : Key × Value) (pairs : Pairs) (b : Bool) (d : Key × Value) → cond b 0 (place_of pairs key + 1) < suc (length pairs)
+        → (place_of pairs key < length pairs → slice_set pairs (place_of pairs key) ((get_or pairs (place_of pairs key) d).0, v) ≡ dict_put pairs key v)
+        → slice_set (pair ∷ pairs) (cond b 0 (place_of pairs key + 1)) ((get_or (pair ∷ pairs) (cond b 0 (place_of pairs key + 1)) d).0, v) ≡ cond b ((pair.0, v) ∷ pairs) (pair ∷ dict_put pairs key v)
+    set_here pair pairs true d within more = refl
+    set_here pair pairs false d within more = rw add-one (ap (λ all. pair ∷ all) (more (omega arith)))
+
+    pub set_at : (pairs : Pairs) (d : Key × Value) → place_of pairs key < length pairs → slice_set pairs (place_of pairs key) ((get_or pairs (place_of pairs key) d).0, v) ≡ dict_put pairs key v
+    unfolding dict_put
+    set_at [] d within = absurd (omega arith)
+    set_at (pair ∷ pairs) d within = set_here pair pairs (same_key key pair.0) d within (set_at pairs d)
+
+    push_here : (pair : Key × Value) (pairs : Pairs) (b : Bool) → suc (length pairs) ≤ cond b 0 (place_of pairs key + 1)
+        → (length pairs ≤ place_of pairs key → pairs ++ (key, v) ∷ [] ≡ dict_put pairs key v)
+        → pair ∷ (pairs ++ (key, v) ∷ []) ≡ cond b ((pair.0, v) ∷ pairs) (pair ∷ dict_put pairs key v)
+    push_here pair pairs true past more = absurd (omega arith)
+    push_here pair pairs false past more = ap (λ all. pair ∷ all) (more (omega arith))
+
+    pub push_at : (pairs : Pairs) → length pairs ≤ place_of pairs key → pairs ++ (key, v) ∷ [] ≡ dict_put pairs key v
+    unfolding dict_put
+    push_at [] past = refl
+    push_at (pair ∷ pairs) past = push_here pair pairs (same_key key pair.0) past (push_at pairs)
+
+-- ---- the same at a number that is the place
+
+pub got_place : (key : Key) (pairs : Pairs) (d : Key × Value) (n : ℕ) → n ≡ place_of pairs key → n < length pairs → Some (get_or pairs n d).1 ≡ dict_get pairs key
+got_place key pairs d n is within = rw is (sym (got_at key pairs d (rw is at within)))
+
+pub got_nothing : (key : Key) (pairs : Pairs) (n : ℕ) → n ≡ place_of pairs key → length pairs ≤ n → None ≡ dict_get pairs key
+got_nothing key pairs n is past = sym (none_at key pairs (rw is at past))
+
+pub removed_place : (key : Key) (pairs : Pairs) (n : ℕ) → n ≡ place_of pairs key → n < length pairs → remove pairs n ≡ dict_without pairs key
+removed_place key pairs n is within = rw is (without_at key pairs (rw is at within))
+
+pub removed_nothing : (key : Key) (pairs : Pairs) (n : ℕ) → n ≡ place_of pairs key → length pairs ≤ n → pairs ≡ dict_without pairs key
+removed_nothing key pairs n is past = same_at key pairs (rw is at past)
+
+pub put_found : (key : Key) (v : Value) (pairs : Pairs) (kept : Key × Value) (n : ℕ) → n ≡ place_of pairs key → n < length pairs → kept ≡ get_or pairs n kept → slice_set pairs n (kept.0, v) ≡ dict_put pairs key v
+put_found key v pairs kept n is within here =
+    let e : slice_set pairs n ((get_or pairs n kept).0, v) ≡ dict_put pairs key v = rw is (set_at key v pairs kept (rw is at within)) in
+    ap (λ (p : Key × Value). slice_set pairs n (p.0, v)) here ∙ e
+
+pub put_new : (key : Key) (v : Value) (pairs : Pairs) (n : ℕ) → n ≡ place_of pairs key → length pairs ≤ n → pairs ++ (key, v) ∷ [] ≡ dict_put pairs key v
+put_new key v pairs n is past = push_at key v pairs (rw is at past)
+
+-- ---- a test of each value
+
+module _ (test : Value → Bool) (key : Key) where
+  abbrev pub All : Pairs → Type 0
+  All pairs = IsTrue (list_all (λ pair. test pair.1) pairs)
+
+  put_here : (v : Value) → IsTrue (test v) → (pair : Key × Value) (pairs : Pairs) (b : Bool) → All (pair ∷ pairs) → All (dict_put pairs key v)
+      → All (cond b ((pair.0, v) ∷ pairs) (pair ∷ dict_put pairs key v))
+  put_here v fine pair pairs true h more = and_both (test v) (list_all (λ p. test p.1) pairs) fine (and_right (test pair.1) (list_all (λ p. test p.1) pairs) h)
+  put_here v fine pair pairs false h more = and_both (test pair.1) (list_all (λ p. test p.1) (dict_put pairs key v)) (and_left (test pair.1) (list_all (λ p. test p.1) pairs) h) more
+
+  pub all_put : (v : Value) → IsTrue (test v) → (pairs : Pairs) → All pairs → All (dict_put pairs key v)
+  unfolding dict_put
+  all_put v fine [] h = and_both (test v) true fine refl
+  all_put v fine (pair ∷ pairs) h = put_here v fine pair pairs (same_key key pair.0) h (all_put v fine pairs (and_right (test pair.1) (list_all (λ p. test p.1) pairs) h))
+
+  left_here : (pair : Key × Value) (pairs : Pairs) (b : Bool) → All (pair ∷ pairs) → All (dict_without pairs key) → All (cond b pairs (pair ∷ dict_without pairs key))
+  left_here pair pairs true h more = and_right (test pair.1) (list_all (λ p. test p.1) pairs) h
+  left_here pair pairs false h more = and_both (test pair.1) (list_all (λ p. test p.1) (dict_without pairs key)) (and_left (test pair.1) (list_all (λ p. test p.1) pairs) h) more
+
+  pub all_without : (pairs : Pairs) → All pairs → All (dict_without pairs key)
+  unfolding dict_without
+  all_without [] h = refl
+  all_without (pair ∷ pairs) h = left_here pair pairs (same_key key pair.0) h (all_without pairs (and_right (test pair.1) (list_all (λ p. test p.1) pairs) h))
+
+-- ---- distinct keys
+
+abbrev stands : Key → Pairs → Bool
+stands k pairs = list_any (λ other. same_key k other.0) pairs
+
+abbrev Away : Key → Pairs → Type 0
+Away k pairs = IsTrue (not (stands k pairs))
+
+away_first : (a b : Bool) → IsTrue (not (a || b)) → a ≡ false
+away_first true b h = absurd (cc)
+away_first false b h = refl
+
+away_rest : (a b : Bool) → IsTrue (not (a || b)) → IsTrue (not b)
+away_rest true b h = absurd (cc)
+away_rest false b h = h
+
+away_both : (a b : Bool) → a ≡ false → IsTrue (not b) → IsTrue (not (a || b))
+away_both true b h k = absurd (cc)
+away_both false b h k = k
+
+module _ (key : Key) where
+  away_put_here : (v : Value) (k : Key) (pair : Key × Value) (pairs : Pairs) (b : Bool) → Away k (pair ∷ pairs) → Away k (dict_put pairs key v)
+      → Away k (cond b ((pair.0, v) ∷ pairs) (pair ∷ dict_put pairs key v))
+  away_put_here v k pair pairs true h more = h
+  away_put_here v k pair pairs false h more = away_both (same_key k pair.0) (stands k (dict_put pairs key v)) (away_first (same_key k pair.0) (stands k pairs) h) more
+
+  -- a key that stands nowhere does not come with another
+  away_put : (v : Value) (k : Key) → same_key k key ≡ false → (pairs : Pairs) → Away k pairs → Away k (dict_put pairs key v)
+  unfolding dict_put
+  away_put v k apart [] h = away_both (same_key k key) false apart refl
+  away_put v k apart (pair ∷ pairs) h = away_put_here v k pair pairs (same_key key pair.0) h (away_put v k apart pairs (away_rest (same_key k pair.0) (stands k pairs) h))
+
+  distinct_put_here : (v : Value) (pair : Key × Value) (pairs : Pairs) (b : Bool) → same_key key pair.0 ≡ b → IsTrue (are_distinct (pair ∷ pairs)) → IsTrue (are_distinct (dict_put pairs key v))
+      → IsTrue (are_distinct (cond b ((pair.0, v) ∷ pairs) (pair ∷ dict_put pairs key v)))
+  distinct_put_here v pair pairs true is h more = h
+  distinct_put_here v pair pairs false is h more =
+      let apart : same_key pair.0 key ≡ false = same_key_equiv.symm pair.0 key ∙ is in
+      and_both (not (stands pair.0 (dict_put pairs key v))) (are_distinct (dict_put pairs key v))
+      (away_put v pair.0 apart pairs (and_left (not (stands pair.0 pairs)) (are_distinct pairs) h)) more
+
+  pub distinct_put : (v : Value) (pairs : Pairs) → IsTrue (are_distinct pairs) → IsTrue (are_distinct (dict_put pairs key v))
+  unfolding dict_put
+  distinct_put v [] h = refl
+  distinct_put v (pair ∷ pairs) h = distinct_put_here v pair pairs (same_key key pair.0) refl h (distinct_put v pairs (and_right (not (stands pair.0 pairs)) (are_distinct pairs) h))
+
+  away_without_here : (k : Key) (pair : Key × Value) (pairs : Pairs) (b : Bool) → Away k (pair ∷ pairs) → Away k (dict_without pairs key) → Away k (cond b pairs (pair ∷ dict_without pairs key))
+  away_without_here k pair pairs true h more = away_rest (same_key k pair.0) (stands k pairs) h
+  away_without_here k pair pairs false h more = away_both (same_key k pair.0) (stands k (dict_without pairs key)) (away_first (same_key k pair.0) (stands k pairs) h) more
+
+  away_without : (k : Key) (pairs : Pairs) → Away k pairs → Away k (dict_without pairs key)
+  unfolding dict_without
+  away_without k [] h = refl
+  away_without k (pair ∷ pairs) h = away_without_here k pair pairs (same_key key pair.0) h (away_without k pairs (away_rest (same_key k pair.0) (stands k pairs) h))
+
+  distinct_without_here : (pair : Key × Value) (pairs : Pairs) (b : Bool) → IsTrue (are_distinct (pair ∷ pairs)) → IsTrue (are_distinct (dict_without pairs key))
+      → IsTrue (are_distinct (cond b pairs (pair ∷ dict_without pairs key)))
+  distinct_without_here pair pairs true h more = and_right (not (stands pair.0 pairs)) (are_distinct pairs) h
+  distinct_without_here pair pairs false h more =
+      and_both (not (stands pair.0 (dict_without pairs key))) (are_distinct (dict_without pairs key))
+      (away_without pair.0 pairs (and_left (not (stands pair.0 pairs)) (are_distinct pairs) h)) more
+
+  pub distinct_without : (pairs : Pairs) → IsTrue (are_distinct pairs) → IsTrue (are_distinct (dict_without pairs key))
+  unfolding dict_without
+  distinct_without [] h = refl
+  distinct_without (pair ∷ pairs) h = distinct_without_here pair pairs (same_key key pair.0) h (distinct_without pairs (and_right (not (stands pair.0 pairs)) (are_distinct pairs) h))

@@ -1,0 +1,6 @@
+use Rattle.std.proofs.Common.{◌≡◌, ◌+◌, drop}
+use Rattle.heap_store.specs.Places as places
+use Rattle.heap_store.proofs.pairs.place_of.Given as goal
+
+abbrev pub invariant-loop-place : goal.invariant-loop-place
+invariant-loop-place l = places.place_of l.pairs l.key ≡ l.place + places.place_of (drop l.place l.pairs) l.key

@@ -1,0 +1,15 @@
+//! The machine that a cell runs over: global names with their values, numbered objects, and the
+//! nodes that have run. Each call is one change of the state that `star_meaning` speaks of, or one
+//! read of it.
+#![tactic(auto)]
+
+pub mod kind;
+pub mod machine;
+mod object;
+mod pairs;
+
+pub use kind::Kind;
+pub use machine::Machine;
+
+#[cfg(test)]
+mod tests;

@@ -1,0 +1,327 @@
+//! The machine.
+ghost use Rattle.std.specs.Prelude.{◌≡◌, ◌<◌, ◌≤◌, ◌*◌, ◌||◌, [], ◌∷◌, ◌++◌, length, reverse, IsTrue, IfOk, IfSome, OnErr, OnOk, slice_get, slice_set, insert, remove, option_map};
+ghost use Rattle.std.specs.List.{list_all};
+ghost use Rattle.std.specs.Option.{option_copied};
+ghost use Rattle.heap_store.specs.Objects.{kind_of, defaults, with_defaults, with_nothing};
+ghost use Rattle.star_meaning.specs.State as state;
+ghost use Rattle.star_meaning.specs.State.{AList, ADict, AFunction};
+ghost use Rattle.star_meaning.specs.Validity.{nothing_ran, fits, is_list, is_dict, is_function};
+
+use crate::object::Object;
+use crate::{Kind, pairs};
+use chex_base::{NoMemory, NodeId, ObjectId, Text};
+use sqlite_items::Items;
+use star_value::{Key, Value, Values};
+use std::alloc::Global;
+use std::collections::BTreeMap;
+use std::marker::Model;
+
+/// What the cells that have run leave to the next one: global names with their values, objects
+/// with the numbers from 0 on, and the nodes of the cells, in the order in which they ran.
+///
+/// Every reference in a machine names an object of its kind, no key of a dict stands twice, at most
+/// 64 cells have run, and there are at most 1,000,000 objects for each of them. `docs/LANGUAGE.md`,
+/// "Values", says what lists, dicts and functions are.
+#[derive(Drop)]
+pub struct Machine {
+    alloc: Global,
+    globals: BTreeMap<Text, Value>,
+    objects: Vec<Object>,
+    ran: Vec<NodeId>,
+}
+
+impl Model for Machine {
+    ghost use Rattle.std.specs.Coded.{codes};
+    ghost use Rattle.star_meaning.specs.Validity.{MachineState, IsMachine};
+    ghost use Rattle.star_value.specs.contracts.key.Key as k;
+    ghost use Rattle.star_value.specs.contracts.value.Value as v;
+
+    ghost Value = { MachineState };
+
+    ghost coded = { Prim.hlevel (codes, k.the_row.coded, v.the_row.coded) };
+
+    ghost view = { λ m. record { state = record { globals = m.globals.entries; objects = m.objects.items }; ran = m.ran.items } };
+
+    ghost invariant = { λ m. IsMachine (record { state = record { globals = m.globals.entries; objects = m.objects.items }; ran = m.ran.items }) };
+}
+
+impl Machine {
+    /// The machine before any cell: no names, no objects, no nodes. It takes no memory.
+    pub fn new(alloc: Global) -> Machine
+        ensures { result ≡ nothing_ran }
+    {
+        Machine {
+            alloc,
+            globals: BTreeMap::new(alloc),
+            objects: Vec::new(alloc),
+            ran: Vec::new(alloc),
+        }
+    }
+
+    /// The nodes whose cells have run, in the order in which they ran.
+    pub fn ran(&self) -> &[NodeId]
+        ensures { result.now ≡ self.now.ran }
+    {
+        self.ran.as_slice()
+    }
+
+    /// How many objects there are. Their ids are the numbers below it.
+    pub fn objects(&self) -> u32
+        ensures { result ≡ length self.now.state.objects }
+    {
+        self.objects.len() as u32
+    }
+
+    /// Notes that the cell of a node runs from now on, which makes room for 1,000,000 more objects.
+    /// Where memory is wanting nothing changes.
+    pub fn enter(&mut self, node: NodeId) -> Result<(), NoMemory>
+        requires { length self.old.ran < 64 }
+        ensures ok { OnOk result (self.new ≡ record self.old { ran = self.old.ran ++ node ∷ [] }) }
+        ensures err { OnErr result (self.new ≡ self.old) }
+    {
+        self.ran.push(node)?;
+        Ok(())
+    }
+
+    /// What an object is.
+    pub fn kind(&self, id: ObjectId) -> Kind
+        requires { id < length self.now.state.objects }
+        ensures { option_map kind_of (slice_get self.now.state.objects id) ≡ Some result }
+    {
+        self.objects[id.0 as usize].kind()
+    }
+
+    /// How many global names there are.
+    pub fn globals(&self) -> usize
+        ensures { result ≡ length self.now.state.globals }
+    {
+        self.globals.len()
+    }
+
+    /// The global name at a place, counted in rising byte order of the names, and its value. It
+    /// walks to the place.
+    pub fn global_at(&self, place: usize) -> (&Text, &Value)
+        requires { place < length self.now.state.globals }
+        ensures { slice_get self.now.state.globals place ≡ Some (result.0.now, result.1.now) }
+    {
+        match self.globals.iter().nth(place) {
+            Some(global) => global,
+            None => unreachable!(),
+        }
+    }
+
+    /// The value of a global name, if it is bound. It takes a number of comparisons that grows with
+    /// the logarithm of the count of names.
+    #[tactic(auto, unfolding(star_meaning::specs::State::global))]
+    pub fn global(&self, name: &Text) -> Option<&Value>
+        ensures { option_copied result ≡ state.global self.now.state name.now }
+    {
+        self.globals.get(name)
+    }
+
+    /// Gives a global name this value, and changes no other name. It takes a number of comparisons
+    /// that grows with the logarithm of the count of names. Where memory is wanting nothing
+    /// changes, and the value is dropped.
+    #[tactic(auto, unfolding(star_meaning::specs::State::set_global))]
+    pub fn set_global(&mut self, name: &Text, value: Value) -> Result<(), NoMemory>
+        requires { IsTrue (fits self.old.state.objects value) }
+        ensures ok { OnOk result (self.new ≡ record self.old { state = state.set_global self.old.state name.now value }) }
+        ensures err { OnErr result (self.new ≡ self.old) }
+    {
+        let name = name.copy(self.alloc)?;
+        self.globals.insert(name, value)?;
+        Ok(())
+    }
+
+    /// A new list of these items, which it moves one after the other. Where memory is wanting
+    /// nothing changes, and the items are dropped.
+    #[tactic(auto, unfolding(star_meaning::specs::State::with_new, star_meaning::specs::State::next_id))]
+    pub fn new_list(&mut self, items: Values) -> Result<ObjectId, NoMemory>
+        requires fit { IsTrue (list_all (fits self.old.state.objects) items) }
+        requires room { length self.old.state.objects < 1000000 * length self.old.ran }
+        ensures ok { IfOk result (λ id. (id ≡ state.next_id self.old.state) × (self.new ≡ record self.old { state = state.with_new self.old.state (AList items) })) }
+        ensures err { OnErr result (self.new ≡ self.old) }
+    {
+        let id = ObjectId(self.objects.len() as u32);
+        let items = to_vec(self.alloc, items)?;
+        self.objects.push(Object::list(items))?;
+        Ok(id)
+    }
+
+    /// A new dict without a pair. Where memory is wanting nothing changes.
+    #[tactic(auto, unfolding(star_meaning::specs::State::with_new, star_meaning::specs::State::next_id))]
+    pub fn new_dict(&mut self) -> Result<ObjectId, NoMemory>
+        requires { length self.old.state.objects < 1000000 * length self.old.ran }
+        ensures ok { IfOk result (λ id. (id ≡ state.next_id self.old.state) × (self.new ≡ record self.old { state = state.with_new self.old.state (ADict []) })) }
+        ensures err { OnErr result (self.new ≡ self.old) }
+    {
+        let id = ObjectId(self.objects.len() as u32);
+        self.objects.push(Object::dict(self.alloc))?;
+        Ok(id)
+    }
+
+    /// A new function: its cell, its number among the functions of the cell, and the values of its
+    /// defaults. Where memory is wanting nothing changes, and the defaults are dropped.
+    #[tactic(auto, unfolding(star_meaning::specs::State::with_new, star_meaning::specs::State::next_id))]
+    pub fn new_function(
+        &mut self,
+        cell: NodeId,
+        number: u32,
+        defaults: Values,
+    ) -> Result<ObjectId, NoMemory>
+        requires fit { IsTrue (list_all (fits self.old.state.objects) defaults) }
+        requires room { length self.old.state.objects < 1000000 * length self.old.ran }
+        ensures ok { IfOk result (λ id. (id ≡ state.next_id self.old.state) × (self.new ≡ record self.old { state = state.with_new self.old.state (AFunction cell number defaults) })) }
+        ensures err { OnErr result (self.new ≡ self.old) }
+    {
+        let id = ObjectId(self.objects.len() as u32);
+        self.objects.push(Object::function(cell, number, defaults))?;
+        Ok(id)
+    }
+
+    /// The items of a list.
+    #[tactic(auto, unfolding(star_meaning::specs::State::list, star_meaning::specs::State::object))]
+    pub fn list(&self, id: ObjectId) -> &[Value]
+        requires { IsTrue (is_list (slice_get self.now.state.objects id)) }
+        ensures { result.now ≡ state.list self.now.state id }
+    {
+        self.objects[id.0 as usize].items()
+    }
+
+    /// Puts a value into a list at a place or at its end. What stands behind moves on by one, which
+    /// takes time linear in its length. Where memory is wanting nothing changes, and the value is
+    /// dropped.
+    #[tactic(auto, unfolding(star_meaning::specs::State::with_list, star_meaning::specs::State::list, star_meaning::specs::State::object))]
+    pub fn list_insert(&mut self, id: ObjectId, place: usize, value: Value) -> Result<(), NoMemory>
+        requires kind { IsTrue (is_list (slice_get self.old.state.objects id)) }
+        requires within { place ≤ length (state.list self.old.state id) }
+        requires fit { IsTrue (fits self.old.state.objects value) }
+        ensures ok { OnOk result (self.new ≡ record self.old { state = state.with_list self.old.state id (insert (state.list self.old.state id) place value) }) }
+        ensures err { OnErr result (self.new ≡ self.old) }
+    {
+        self.objects[id.0 as usize].insert(place, value)?;
+        Ok(())
+    }
+
+    /// Puts a value in the place of an item of a list. It takes no memory.
+    #[tactic(auto, unfolding(star_meaning::specs::State::with_list, star_meaning::specs::State::list, star_meaning::specs::State::object))]
+    pub fn list_set(&mut self, id: ObjectId, place: usize, value: Value)
+        requires kind { IsTrue (is_list (slice_get self.old.state.objects id)) }
+        requires within { place < length (state.list self.old.state id) }
+        requires fit { IsTrue (fits self.old.state.objects value) }
+        ensures { self.new ≡ record self.old { state = state.with_list self.old.state id (slice_set (state.list self.old.state id) place value) } }
+    {
+        self.objects[id.0 as usize].set(place, value);
+    }
+
+    /// Takes an item out of a list. What stands behind closes up, which takes time linear in its
+    /// length and no memory.
+    #[tactic(auto, unfolding(star_meaning::specs::State::with_list, star_meaning::specs::State::list, star_meaning::specs::State::object))]
+    pub fn list_remove(&mut self, id: ObjectId, place: usize) -> Value
+        requires kind { IsTrue (is_list (slice_get self.old.state.objects id)) }
+        requires within { place < length (state.list self.old.state id) }
+        ensures item { slice_get (state.list self.old.state id) place ≡ Some result }
+        ensures rest { self.new ≡ record self.old { state = state.with_list self.old.state id (remove (state.list self.old.state id) place) } }
+    {
+        self.objects[id.0 as usize].remove(place)
+    }
+
+    /// Takes all items out of a list, or all pairs out of a dict. It takes no memory.
+    #[tactic(auto, unfolding(crate::specs::Objects::with_nothing, star_meaning::specs::State::with_list, star_meaning::specs::State::with_dict, star_meaning::specs::State::object))]
+    pub fn clear(&mut self, id: ObjectId)
+        requires { IsTrue (is_list (slice_get self.old.state.objects id) || is_dict (slice_get self.old.state.objects id)) }
+        ensures { self.new ≡ record self.old { state = with_nothing self.old.state id } }
+    {
+        self.objects[id.0 as usize].clear();
+    }
+
+    /// How many pairs a dict has.
+    #[tactic(auto, unfolding(star_meaning::specs::State::dict, star_meaning::specs::State::object))]
+    pub fn dict_len(&self, id: ObjectId) -> usize
+        requires { IsTrue (is_dict (slice_get self.now.state.objects id)) }
+        ensures { result ≡ length (state.dict self.now.state id) }
+    {
+        self.objects[id.0 as usize].pairs().len()
+    }
+
+    /// The pair of a dict at a place, counted in order of insertion.
+    #[tactic(auto, unfolding(star_meaning::specs::State::dict, star_meaning::specs::State::object))]
+    pub fn dict_at(&self, id: ObjectId, place: usize) -> (&Key, &Value)
+        requires kind { IsTrue (is_dict (slice_get self.now.state.objects id)) }
+        requires within { place < length (state.dict self.now.state id) }
+        ensures { slice_get (state.dict self.now.state id) place ≡ Some (result.0.now, result.1.now) }
+    {
+        let pair = &self.objects[id.0 as usize].pairs()[place];
+        (&pair.0, &pair.1)
+    }
+
+    /// The value of a key in a dict, if it is there. It compares the keys one after the other.
+    #[tactic(auto, unfolding(star_meaning::specs::State::dict, star_meaning::specs::State::object))]
+    pub fn dict_get(&self, id: ObjectId, key: &Key) -> Option<&Value>
+        requires { IsTrue (is_dict (slice_get self.now.state.objects id)) }
+        ensures { option_copied result ≡ state.dict_get (state.dict self.now.state id) key.now }
+    {
+        pairs::get(self.objects[id.0 as usize].pairs(), key)
+    }
+
+    /// Gives a key of a dict this value: a present key keeps its place, and a new one goes last. It
+    /// compares the keys one after the other. Where memory is wanting nothing changes, and the key
+    /// and the value are dropped.
+    #[tactic(auto, unfolding(star_meaning::specs::State::with_dict, star_meaning::specs::State::dict, star_meaning::specs::State::object))]
+    pub fn dict_put(&mut self, id: ObjectId, key: Key, value: Value) -> Result<(), NoMemory>
+        requires kind { IsTrue (is_dict (slice_get self.old.state.objects id)) }
+        requires fit { IsTrue (fits self.old.state.objects value) }
+        ensures ok { OnOk result (self.new ≡ record self.old { state = state.with_dict self.old.state id (state.dict_put (state.dict self.old.state id) key value) }) }
+        ensures err { OnErr result (self.new ≡ self.old) }
+    {
+        self.objects[id.0 as usize].put(key, value)?;
+        Ok(())
+    }
+
+    /// Takes a key with its value out of a dict, and answers the value, or None where the key is
+    /// not there. The pairs behind it close up. It compares the keys one after the other, and takes
+    /// no memory.
+    #[tactic(auto, unfolding(star_meaning::specs::State::with_dict, star_meaning::specs::State::dict, star_meaning::specs::State::object))]
+    pub fn dict_remove(&mut self, id: ObjectId, key: &Key) -> Option<Value>
+        requires { IsTrue (is_dict (slice_get self.old.state.objects id)) }
+        ensures value { result ≡ state.dict_get (state.dict self.old.state id) key.now }
+        ensures rest { self.new ≡ record self.old { state = state.with_dict self.old.state id (state.dict_without (state.dict self.old.state id) key.now) } }
+    {
+        self.objects[id.0 as usize].take(key)
+    }
+
+    /// The cell of a function, its number among the functions of the cell, and the values of its
+    /// defaults.
+    #[tactic(auto, unfolding(star_meaning::specs::State::function, star_meaning::specs::State::object))]
+    pub fn function(&self, id: ObjectId) -> (NodeId, u32, &[Value])
+        requires { IsTrue (is_function (slice_get self.now.state.objects id)) }
+        ensures { state.function self.now.state id ≡ Some (result.0, result.1, result.2.now) }
+    {
+        self.objects[id.0 as usize].parts()
+    }
+
+    /// Puts a value in the place of a default of a function. It takes no memory. A default may
+    /// refer to an object with a higher number than the function's, so one who rebuilds a machine
+    /// sets it once that object is there.
+    #[tactic(auto, unfolding(crate::specs::Objects::defaults, crate::specs::Objects::with_defaults, star_meaning::specs::State::function, star_meaning::specs::State::object))]
+    pub fn function_set(&mut self, id: ObjectId, place: usize, value: Value)
+        requires kind { IsTrue (is_function (slice_get self.old.state.objects id)) }
+        requires within { place < length (defaults self.old.state id) }
+        requires fit { IsTrue (fits self.old.state.objects value) }
+        ensures { self.new ≡ record self.old { state = with_defaults self.old.state id (slice_set (defaults self.old.state id) place value) } }
+    {
+        self.objects[id.0 as usize].set_default(place, value);
+    }
+}
+
+/// The same items in a `Vec`, which takes them in the middle too.
+fn to_vec(alloc: Global, mut items: Values) -> Result<Vec<Value>, NoMemory>
+    ensures { IfOk result (λ vec. vec.items ≡ items) }
+{
+    let mut vec = Vec::with_capacity(alloc, items.len())?;
+    while let Some(item) = items.pop() {
+        vec.push(item)?;
+    }
+    vec.as_mut_slice().reverse();
+    Ok(vec)
+}

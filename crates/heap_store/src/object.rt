@@ -1,0 +1,199 @@
+//! One object of a machine.
+ghost use Rattle.std.specs.Prelude.{◌≡◌, ◌<◌, ◌≤◌, [], length, IsTrue, IfSome, OnErr, OnOk, slice_get, slice_set, insert, remove};
+ghost use Rattle.heap_store.specs.Objects.{kind_of, emptied, defaults_in};
+ghost use Rattle.star_meaning.specs.State as state;
+ghost use Rattle.star_meaning.specs.State.{AList, ADict, AFunction, items_of, pairs_of, parts_of};
+ghost use Rattle.star_meaning.specs.Validity.{is_list, is_dict, is_function};
+
+use crate::Kind;
+use crate::pairs::{self, Pair};
+use chex_base::{NoMemory, NodeId};
+use sqlite_items::Items;
+use star_value::{Key, Value, Values};
+use std::alloc::Global;
+use std::marker::Model;
+
+#[derive(Drop)]
+enum Form {
+    List(Vec<Value>),
+    Dict(Vec<Pair>),
+    /// The cell, the number of the function in it, and the values of the defaults.
+    Function(NodeId, u32, Values),
+}
+
+/// A list of values, a dict, or a function.
+#[derive(Drop)]
+pub struct Object {
+    form: Form,
+}
+
+impl Model for Object {
+    ghost use Rattle.std.specs.Prelude.{ℕ};
+    ghost use Rattle.std.specs.Coded.{codes};
+    ghost use Rattle.star_meaning.specs.State as state;
+    ghost use Rattle.star_value.specs.contracts.key.Key as k;
+    ghost use Rattle.star_value.specs.contracts.value.Value as v;
+
+    ghost Value = { state.Object ℕ };
+
+    ghost coded = { Prim.hlevel (codes, k.the_row.coded, v.the_row.coded) };
+
+    ghost use Rattle.heap_store.specs.Forms.{seen};
+
+    ghost view = { λ o. seen o.form };
+}
+
+impl Object {
+    pub fn list(items: Vec<Value>) -> Object
+        ensures { result ≡ AList items.items }
+    {
+        Object {
+            form: Form::List(items),
+        }
+    }
+
+    pub fn dict(alloc: Global) -> Object
+        ensures { result ≡ ADict [] }
+    {
+        Object {
+            form: Form::Dict(Vec::new(alloc)),
+        }
+    }
+
+    pub fn function(cell: NodeId, number: u32, defaults: Values) -> Object
+        ensures { result ≡ AFunction cell number defaults }
+    {
+        Object {
+            form: Form::Function(cell, number, defaults),
+        }
+    }
+
+    pub fn kind(&self) -> Kind
+        ensures { result ≡ kind_of self.now }
+    {
+        match &self.form {
+            Form::List(_) => Kind::List,
+            Form::Dict(_) => Kind::Dict,
+            Form::Function(_, _, _) => Kind::Function,
+        }
+    }
+
+    pub fn items(&self) -> &[Value]
+        requires { IsTrue (is_list (Some self.now)) }
+        ensures { result.now ≡ items_of (Some self.now) }
+    {
+        match &self.form {
+            Form::List(items) => items.as_slice(),
+            Form::Dict(_) => unreachable!(),
+            Form::Function(_, _, _) => unreachable!(),
+        }
+    }
+
+    pub fn pairs(&self) -> &[Pair]
+        requires { IsTrue (is_dict (Some self.now)) }
+        ensures { result.now ≡ pairs_of (Some self.now) }
+    {
+        match &self.form {
+            Form::Dict(pairs) => pairs.as_slice(),
+            Form::List(_) => unreachable!(),
+            Form::Function(_, _, _) => unreachable!(),
+        }
+    }
+
+    pub fn parts(&self) -> (NodeId, u32, &[Value])
+        requires { IsTrue (is_function (Some self.now)) }
+        ensures { parts_of (Some self.now) ≡ Some (result.0, result.1, result.2.now) }
+    {
+        match &self.form {
+            Form::Function(cell, number, defaults) => (*cell, *number, defaults.as_slice()),
+            Form::List(_) => unreachable!(),
+            Form::Dict(_) => unreachable!(),
+        }
+    }
+
+    pub fn insert(&mut self, place: usize, value: Value) -> Result<(), NoMemory>
+        requires kind { IsTrue (is_list (Some self.old)) }
+        requires within { place ≤ length (items_of (Some self.old)) }
+        ensures ok { OnOk result (self.new ≡ AList (insert (items_of (Some self.old)) place value)) }
+        ensures err { OnErr result (self.new ≡ self.old) }
+    {
+        match &mut self.form {
+            Form::List(items) => items.insert(place, value)?,
+            Form::Dict(_) => unreachable!(),
+            Form::Function(_, _, _) => unreachable!(),
+        }
+        Ok(())
+    }
+
+    pub fn set(&mut self, place: usize, value: Value)
+        requires kind { IsTrue (is_list (Some self.old)) }
+        requires within { place < length (items_of (Some self.old)) }
+        ensures { self.new ≡ AList (slice_set (items_of (Some self.old)) place value) }
+    {
+        match &mut self.form {
+            Form::List(items) => items[place] = value,
+            Form::Dict(_) => unreachable!(),
+            Form::Function(_, _, _) => unreachable!(),
+        }
+    }
+
+    pub fn remove(&mut self, place: usize) -> Value
+        requires kind { IsTrue (is_list (Some self.old)) }
+        requires within { place < length (items_of (Some self.old)) }
+        ensures item { slice_get (items_of (Some self.old)) place ≡ Some result }
+        ensures rest { self.new ≡ AList (remove (items_of (Some self.old)) place) }
+    {
+        match &mut self.form {
+            Form::List(items) => items.remove(place),
+            Form::Dict(_) => unreachable!(),
+            Form::Function(_, _, _) => unreachable!(),
+        }
+    }
+
+    pub fn clear(&mut self)
+        ensures { self.new ≡ emptied self.old }
+    {
+        match &mut self.form {
+            Form::List(items) => items.clear(),
+            Form::Dict(pairs) => pairs.clear(),
+            Form::Function(_, _, _) => {}
+        }
+    }
+
+    pub fn put(&mut self, key: Key, value: Value) -> Result<(), NoMemory>
+        requires { IsTrue (is_dict (Some self.old)) }
+        ensures ok { OnOk result (self.new ≡ ADict (state.dict_put (pairs_of (Some self.old)) key value)) }
+        ensures err { OnErr result (self.new ≡ self.old) }
+    {
+        match &mut self.form {
+            Form::Dict(held) => pairs::put(held, key, value)?,
+            Form::List(_) => unreachable!(),
+            Form::Function(_, _, _) => unreachable!(),
+        }
+        Ok(())
+    }
+
+    pub fn take(&mut self, key: &Key) -> Option<Value>
+        requires { IsTrue (is_dict (Some self.old)) }
+        ensures value { result ≡ state.dict_get (pairs_of (Some self.old)) key.now }
+        ensures rest { self.new ≡ ADict (state.dict_without (pairs_of (Some self.old)) key.now) }
+    {
+        match &mut self.form {
+            Form::Dict(held) => pairs::remove(held, key),
+            Form::List(_) => unreachable!(),
+            Form::Function(_, _, _) => unreachable!(),
+        }
+    }
+
+    pub fn set_default(&mut self, place: usize, value: Value)
+        requires kind { IsTrue (is_function (Some self.old)) }
+        requires within { place < length (defaults_in (parts_of (Some self.old))) }
+        ensures { IfSome (parts_of (Some self.old)) (λ parts. self.new ≡ AFunction parts.0 parts.1 (slice_set parts.2 place value)) }
+    {
+        match &mut self.form {
+            Form::Function(_, _, defaults) => defaults.set(place, value),
+            Form::List(_) => unreachable!(),
+            Form::Dict(_) => unreachable!(),
+        }
+    }
+}
