@@ -5,7 +5,7 @@ ghost use Rattle.std.specs.Option.{option_copied};
 ghost use Rattle.heap_store.specs.Objects.{kind_of, defaults, with_defaults, with_nothing};
 ghost use Rattle.star_meaning.specs.State as state;
 ghost use Rattle.star_meaning.specs.State.{AList, ADict, AFunction};
-ghost use Rattle.star_meaning.specs.Validity.{nothing_ran, fits, is_list, is_dict, is_function};
+ghost use Rattle.star_meaning.specs.Validity.{IsMachine, nothing_ran, fits, is_list, is_dict, is_function};
 
 use crate::object::Object;
 use crate::{Kind, pairs};
@@ -60,14 +60,16 @@ impl Machine {
 
     /// The nodes whose cells have run, in the order in which they ran.
     pub fn ran(&self) -> &[NodeId]
-        ensures { result.now ≡ self.now.ran }
+        ensures value { result.now ≡ self.now.ran }
+        ensures kept { IsMachine self.now }
     {
         self.ran.as_slice()
     }
 
     /// How many objects there are. Their ids are the numbers below it.
     pub fn objects(&self) -> u32
-        ensures { result ≡ length self.now.state.objects }
+        ensures value { result ≡ length self.now.state.objects }
+        ensures kept { IsMachine self.now }
     {
         self.objects.len() as u32
     }
@@ -86,14 +88,16 @@ impl Machine {
     /// What an object is.
     pub fn kind(&self, id: ObjectId) -> Kind
         requires { id < length self.now.state.objects }
-        ensures { option_map kind_of (slice_get self.now.state.objects id) ≡ Some result }
+        ensures value { option_map kind_of (slice_get self.now.state.objects id) ≡ Some result }
+        ensures kept { IsMachine self.now }
     {
         self.objects[id.0 as usize].kind()
     }
 
     /// How many global names there are.
     pub fn globals(&self) -> usize
-        ensures { result ≡ length self.now.state.globals }
+        ensures value { result ≡ length self.now.state.globals }
+        ensures kept { IsMachine self.now }
     {
         self.globals.len()
     }
@@ -102,7 +106,8 @@ impl Machine {
     /// walks to the place.
     pub fn global_at(&self, place: usize) -> (&Text, &Value)
         requires { place < length self.now.state.globals }
-        ensures { slice_get self.now.state.globals place ≡ Some (result.0.now, result.1.now) }
+        ensures value { slice_get self.now.state.globals place ≡ Some (result.0.now, result.1.now) }
+        ensures kept { IsMachine self.now }
     {
         match self.globals.iter().nth(place) {
             Some(global) => global,
@@ -114,7 +119,8 @@ impl Machine {
     /// the logarithm of the count of names.
     #[tactic(auto, unfolding(star_meaning::specs::State::global))]
     pub fn global(&self, name: &Text) -> Option<&Value>
-        ensures { option_copied result ≡ state.global self.now.state name.now }
+        ensures value { option_copied result ≡ state.global self.now.state name.now }
+        ensures kept { IsMachine self.now }
     {
         self.globals.get(name)
     }
@@ -183,7 +189,8 @@ impl Machine {
     #[tactic(auto, unfolding(star_meaning::specs::State::list, star_meaning::specs::State::object))]
     pub fn list(&self, id: ObjectId) -> &[Value]
         requires { IsTrue (is_list (slice_get self.now.state.objects id)) }
-        ensures { result.now ≡ state.list self.now.state id }
+        ensures value { result.now ≡ state.list self.now.state id }
+        ensures kept { IsMachine self.now }
     {
         self.objects[id.0 as usize].items()
     }
@@ -239,7 +246,8 @@ impl Machine {
     #[tactic(auto, unfolding(star_meaning::specs::State::dict, star_meaning::specs::State::object))]
     pub fn dict_len(&self, id: ObjectId) -> usize
         requires { IsTrue (is_dict (slice_get self.now.state.objects id)) }
-        ensures { result ≡ length (state.dict self.now.state id) }
+        ensures value { result ≡ length (state.dict self.now.state id) }
+        ensures kept { IsMachine self.now }
     {
         self.objects[id.0 as usize].pairs().len()
     }
@@ -249,7 +257,8 @@ impl Machine {
     pub fn dict_at(&self, id: ObjectId, place: usize) -> (&Key, &Value)
         requires kind { IsTrue (is_dict (slice_get self.now.state.objects id)) }
         requires within { place < length (state.dict self.now.state id) }
-        ensures { slice_get (state.dict self.now.state id) place ≡ Some (result.0.now, result.1.now) }
+        ensures value { slice_get (state.dict self.now.state id) place ≡ Some (result.0.now, result.1.now) }
+        ensures kept { IsMachine self.now }
     {
         let pair = &self.objects[id.0 as usize].pairs()[place];
         (&pair.0, &pair.1)
@@ -259,7 +268,8 @@ impl Machine {
     #[tactic(auto, unfolding(star_meaning::specs::State::dict, star_meaning::specs::State::object))]
     pub fn dict_get(&self, id: ObjectId, key: &Key) -> Option<&Value>
         requires { IsTrue (is_dict (slice_get self.now.state.objects id)) }
-        ensures { option_copied result ≡ state.dict_get (state.dict self.now.state id) key.now }
+        ensures value { option_copied result ≡ state.dict_get (state.dict self.now.state id) key.now }
+        ensures kept { IsMachine self.now }
     {
         pairs::get(self.objects[id.0 as usize].pairs(), key)
     }
@@ -295,7 +305,8 @@ impl Machine {
     #[tactic(auto, unfolding(star_meaning::specs::State::function, star_meaning::specs::State::object))]
     pub fn function(&self, id: ObjectId) -> (NodeId, u32, &[Value])
         requires { IsTrue (is_function (slice_get self.now.state.objects id)) }
-        ensures { state.function self.now.state id ≡ Some (result.0, result.1, result.2.now) }
+        ensures value { state.function self.now.state id ≡ Some (result.0, result.1, result.2.now) }
+        ensures kept { IsMachine self.now }
     {
         self.objects[id.0 as usize].parts()
     }
