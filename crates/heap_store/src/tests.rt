@@ -24,6 +24,7 @@ fn expect_room(rt: &impl Abort, machine: &Machine)
     assert!(rt; machine.objects() < 1_000_000);
 }
 
+#[tactic(auto, using(crate::proofs::Fitting::kind_list))]
 fn expect_list(rt: &impl Abort, machine: &Machine, id: ObjectId)
     ensures { IsTrue (is_list (slice_get machine.now.state.objects id)) }
 {
@@ -31,6 +32,7 @@ fn expect_list(rt: &impl Abort, machine: &Machine, id: ObjectId)
     assert!(rt; matches!(machine.kind(id), Kind::List));
 }
 
+#[tactic(auto, using(crate::proofs::Fitting::kind_dict))]
 fn expect_dict(rt: &impl Abort, machine: &Machine, id: ObjectId)
     ensures { IsTrue (is_dict (slice_get machine.now.state.objects id)) }
 {
@@ -38,6 +40,7 @@ fn expect_dict(rt: &impl Abort, machine: &Machine, id: ObjectId)
     assert!(rt; matches!(machine.kind(id), Kind::Dict));
 }
 
+#[tactic(auto, using(crate::proofs::Fitting::kind_function))]
 fn expect_function(rt: &impl Abort, machine: &Machine, id: ObjectId)
     ensures { IsTrue (is_function (slice_get machine.now.state.objects id)) }
 {
@@ -50,6 +53,7 @@ fn list(rt: &impl Abort, alloc: Global, machine: &mut Machine) -> Result<ObjectI
     machine.new_list(Items::new(alloc))
 }
 
+#[tactic(auto, using(crate::proofs::Fitting::fits_int))]
 fn insert(
     rt: &impl Abort,
     machine: &mut Machine,
@@ -60,6 +64,43 @@ fn insert(
     expect_list(rt, machine, id);
     assert!(rt; place <= machine.list(id).len());
     machine.list_insert(id, place, Value::Int(number))
+}
+
+#[tactic(auto, using(crate::proofs::Fitting::fits_int))]
+fn set(rt: &impl Abort, machine: &mut Machine, id: ObjectId, place: usize, number: i128) {
+    expect_list(rt, machine, id);
+    assert!(rt; place < machine.list(id).len());
+    machine.list_set(id, place, Value::Int(number));
+}
+
+fn remove(
+    rt: &impl Abort,
+    alloc: Global,
+    machine: &mut Machine,
+    id: ObjectId,
+    place: usize,
+    expected: &str,
+) -> Result<(), NoMemory> {
+    expect_list(rt, machine, id);
+    assert!(rt; place < machine.list(id).len());
+    let item = machine.list_remove(id, place);
+    value_shows(rt, alloc, &item, expected)
+}
+
+fn clear(rt: &impl Abort, machine: &mut Machine, id: ObjectId) {
+    expect_list(rt, machine, id);
+    machine.clear(id);
+}
+
+fn value_shows(
+    rt: &impl Abort,
+    alloc: Global,
+    value: &Value,
+    expected: &str,
+) -> Result<(), NoMemory> {
+    let shown = format!(in alloc; "{value:?}")?;
+    assert_eq!(rt; shown.as_str(), expected);
+    Ok(())
 }
 
 fn list_shows(
@@ -75,6 +116,24 @@ fn list_shows(
     Ok(())
 }
 
+#[test]
+fn items_stand_where_they_were_put(rt: HostRuntime) -> Result<(), Fail> {
+    let alloc = rt.alloc();
+    let mut machine = entered(alloc)?;
+    let id = list(&rt, alloc, &mut machine)?;
+    insert(&rt, &mut machine, id, 0, 10)?;
+    insert(&rt, &mut machine, id, 1, 30)?;
+    insert(&rt, &mut machine, id, 1, 20)?;
+    list_shows(&rt, alloc, &machine, id, "[Int(10), Int(20), Int(30)]")?;
+    set(&rt, &mut machine, id, 2, 31);
+    remove(&rt, alloc, &mut machine, id, 0, "Int(10)")?;
+    list_shows(&rt, alloc, &machine, id, "[Int(20), Int(31)]")?;
+    clear(&rt, &mut machine, id);
+    list_shows(&rt, alloc, &machine, id, "[]")?;
+    Ok(())
+}
+
+#[tactic(auto, using(crate::proofs::Fitting::fits_list))]
 fn name(
     rt: &impl Abort,
     alloc: Global,
@@ -86,69 +145,70 @@ fn name(
     machine.set_global(&Text::from_str(alloc, name)?, Value::List(id))
 }
 
+/// The name at a place, and what it leads to.
+fn name_shows(
+    rt: &impl Abort,
+    alloc: Global,
+    machine: &Machine,
+    place: usize,
+    name: &str,
+    expected: &str,
+) -> Result<(), NoMemory> {
+    assert!(rt; place < machine.globals());
+    let (found, value) = machine.global_at(place);
+    assert_eq!(rt; found.as_str(), name);
+    value_shows(rt, alloc, value, expected)
+}
+
+fn found_shows(
+    rt: &impl Abort,
+    alloc: Global,
+    found: Option<&Value>,
+    expected: &str,
+) -> Result<(), NoMemory> {
+    let shown = format!(in alloc; "{found:?}")?;
+    assert_eq!(rt; shown.as_str(), expected);
+    Ok(())
+}
+
 #[test]
 fn names_rise_and_lead_to_one_object(rt: HostRuntime) -> Result<(), Fail> {
     let alloc = rt.alloc();
     let mut machine = entered(alloc)?;
-    let _first = list(&rt, alloc, &mut machine)?;
+    let first = list(&rt, alloc, &mut machine)?;
     let id = list(&rt, alloc, &mut machine)?;
-    for of in ["\u{e9}", "a", "B"] {
-        name(&rt, alloc, &mut machine, of, id)?;
-    }
+    name(&rt, alloc, &mut machine, "\u{e9}", id)?;
+    name(&rt, alloc, &mut machine, "a", first)?;
+    name(&rt, alloc, &mut machine, "B", id)?;
+    name(&rt, alloc, &mut machine, "a", id)?;
     insert(&rt, &mut machine, id, 0, 7)?;
-    list_shows(&rt, alloc, &machine, id, "[Int(7)]")?;
-    machine.set_global(&Text::from_str(alloc, "a")?, Value::None)?;
-    let rows = [
-        ("B", "List(ObjectId(1))"),
-        ("a", "None"),
-        ("\u{e9}", "List(ObjectId(1))"),
-    ];
-    assert_eq!(rt; machine.globals(), rows.len());
-    for (place, (of, expected)) in rows.iter().enumerate() {
-        assert!(rt; place < machine.globals());
-        let (found, value) = machine.global_at(place);
-        assert_eq!(rt; found.as_str(), *of);
-        let shown = format!(in alloc; "{value:?}")?;
-        assert_eq!(rt; shown.as_str(), *expected, "{of}");
-        let shown = format!(in alloc; "Some({value:?})")?;
-        let again = format!(in alloc; "{:?}", machine.global(&Text::from_str(alloc, of)?))?;
-        assert_eq!(rt; again.as_str(), shown.as_str(), "{of}");
-    }
-    assert!(rt; machine.global(&Text::from_str(alloc, "A")?).is_none());
-    let ran = format!(in alloc; "{:?}", machine.ran())?;
-    assert_eq!(rt; ran.as_str(), "[NodeId(1)]");
+    assert_eq!(rt; machine.globals(), 3);
+    name_shows(&rt, alloc, &machine, 0, "B", "List(ObjectId(1))")?;
+    name_shows(&rt, alloc, &machine, 1, "a", "List(ObjectId(1))")?;
+    name_shows(&rt, alloc, &machine, 2, "\u{e9}", "List(ObjectId(1))")?;
+    list_shows(&rt, alloc, &machine, ObjectId(1), "[Int(7)]")?;
+    list_shows(&rt, alloc, &machine, first, "[]")?;
     Ok(())
 }
 
 #[test]
-fn items_stand_where_they_were_put(rt: HostRuntime) -> Result<(), Fail> {
+fn a_name_is_found_once_it_is_bound(rt: HostRuntime) -> Result<(), Fail> {
     let alloc = rt.alloc();
     let mut machine = entered(alloc)?;
     let id = list(&rt, alloc, &mut machine)?;
-    for (place, number) in [(0, 10), (1, 30), (1, 20), (0, 5)] {
-        insert(&rt, &mut machine, id, place, number)?;
-    }
-    list_shows(
-        &rt,
-        alloc,
-        &machine,
-        id,
-        "[Int(5), Int(10), Int(20), Int(30)]",
-    )?;
-    expect_list(&rt, &machine, id);
-    assert!(rt; machine.list(id).len() == 4);
-    machine.list_set(id, 2, Value::Int(21));
-    expect_list(&rt, &machine, id);
-    assert!(rt; machine.list(id).len() == 4);
-    let taken = format!(in alloc; "{:?}", machine.list_remove(id, 1))?;
-    assert_eq!(rt; taken.as_str(), "Int(10)");
-    list_shows(&rt, alloc, &machine, id, "[Int(5), Int(21), Int(30)]")?;
-    expect_list(&rt, &machine, id);
-    machine.clear(id);
-    list_shows(&rt, alloc, &machine, id, "[]")?;
+    let of = Text::from_str(alloc, "a")?;
+    found_shows(&rt, alloc, machine.global(&of), "None")?;
+    name(&rt, alloc, &mut machine, "a", id)?;
+    found_shows(&rt, alloc, machine.global(&of), "Some(List(ObjectId(0)))")?;
     Ok(())
 }
 
+fn dict(rt: &impl Abort, machine: &mut Machine) -> Result<ObjectId, NoMemory> {
+    expect_room(rt, machine);
+    machine.new_dict()
+}
+
+#[tactic(auto, using(crate::proofs::Fitting::fits_int))]
 fn put(
     rt: &impl Abort,
     machine: &mut Machine,
@@ -160,77 +220,116 @@ fn put(
     machine.dict_put(id, Key::Int(key), Value::Int(number))
 }
 
-fn dict_shows(
+fn take(
+    rt: &impl Abort,
+    alloc: Global,
+    machine: &mut Machine,
+    id: ObjectId,
+    key: i128,
+    expected: &str,
+) -> Result<(), NoMemory> {
+    expect_dict(rt, machine, id);
+    let key = Key::Int(key);
+    found_shows(rt, alloc, machine.dict_get(id, &key), expected)?;
+    let taken = machine.dict_remove(id, &key);
+    found_shows(rt, alloc, taken.as_ref(), expected)
+}
+
+/// The pair at a place, counted in order of insertion.
+fn pair_shows(
     rt: &impl Abort,
     alloc: Global,
     machine: &Machine,
     id: ObjectId,
-    rows: &[(&str, &str)],
+    place: usize,
+    expected: &str,
 ) -> Result<(), NoMemory> {
     expect_dict(rt, machine, id);
-    assert_eq!(rt; machine.dict_len(id), rows.len());
-    for (place, (key, value)) in rows.iter().enumerate() {
-        assert!(rt; place < machine.dict_len(id));
-        let pair = machine.dict_at(id, place);
-        let shown = format!(in alloc; "{:?} {:?}", pair.0, pair.1)?;
-        let expected = format!(in alloc; "{key} {value}")?;
-        assert_eq!(rt; shown.as_str(), expected.as_str());
-    }
+    assert!(rt; place < machine.dict_len(id));
+    let (key, value) = machine.dict_at(id, place);
+    let shown = format!(in alloc; "{key:?} {value:?}")?;
+    assert_eq!(rt; shown.as_str(), expected);
+    Ok(())
+}
+
+fn has_pairs(rt: &impl Abort, machine: &Machine, id: ObjectId, count: usize) {
+    expect_dict(rt, machine, id);
+    assert_eq!(rt; machine.dict_len(id), count);
+}
+
+#[test]
+fn a_key_that_is_put_again_keeps_its_place(rt: HostRuntime) -> Result<(), Fail> {
+    let alloc = rt.alloc();
+    let mut machine = entered(alloc)?;
+    let id = dict(&rt, &mut machine)?;
+    put(&rt, &mut machine, id, 1, 10)?;
+    put(&rt, &mut machine, id, 2, 20)?;
+    put(&rt, &mut machine, id, 1, 11)?;
+    has_pairs(&rt, &machine, id, 2);
+    pair_shows(&rt, alloc, &machine, id, 0, "Int(1) Int(11)")?;
+    pair_shows(&rt, alloc, &machine, id, 1, "Int(2) Int(20)")?;
     Ok(())
 }
 
 #[test]
-fn keys_keep_their_places(rt: HostRuntime) -> Result<(), Fail> {
+fn a_removed_key_closes_up(rt: HostRuntime) -> Result<(), Fail> {
     let alloc = rt.alloc();
     let mut machine = entered(alloc)?;
-    expect_room(&rt, &machine);
-    let id = machine.new_dict()?;
-    for (key, number) in [(1, 10), (2, 20), (1, 11), (3, 30)] {
-        put(&rt, &mut machine, id, key, number)?;
-    }
-    let rows = [
-        ("Int(1)", "Int(11)"),
-        ("Int(2)", "Int(20)"),
-        ("Int(3)", "Int(30)"),
-    ];
-    dict_shows(&rt, alloc, &machine, id, &rows)?;
-    for (key, expected) in [(2, "Some(Int(20))"), (2, "None"), (7, "None")] {
-        expect_dict(&rt, &machine, id);
-        let found = format!(in alloc; "{:?}", machine.dict_get(id, &Key::Int(key)))?;
-        assert_eq!(rt; found.as_str(), expected, "{key}");
-        let taken = format!(in alloc; "{:?}", machine.dict_remove(id, &Key::Int(key)))?;
-        assert_eq!(rt; taken.as_str(), expected, "{key}");
-    }
-    put(&rt, &mut machine, id, 2, 22)?;
-    let rows = [
-        ("Int(1)", "Int(11)"),
-        ("Int(3)", "Int(30)"),
-        ("Int(2)", "Int(22)"),
-    ];
-    dict_shows(&rt, alloc, &machine, id, &rows)?;
-    expect_dict(&rt, &machine, id);
-    machine.clear(id);
-    dict_shows(&rt, alloc, &machine, id, &[])?;
+    let id = dict(&rt, &mut machine)?;
+    put(&rt, &mut machine, id, 1, 10)?;
+    put(&rt, &mut machine, id, 2, 20)?;
+    take(&rt, alloc, &mut machine, id, 1, "Some(Int(10))")?;
+    take(&rt, alloc, &mut machine, id, 1, "None")?;
+    put(&rt, &mut machine, id, 1, 12)?;
+    has_pairs(&rt, &machine, id, 2);
+    pair_shows(&rt, alloc, &machine, id, 0, "Int(2) Int(20)")?;
+    pair_shows(&rt, alloc, &machine, id, 1, "Int(1) Int(12)")?;
     Ok(())
 }
 
-#[test]
-fn functions_keep_their_cells(rt: HostRuntime) -> Result<(), Fail> {
-    let alloc = rt.alloc();
-    let mut machine = entered(alloc)?;
-    expect_room(&rt, &machine);
+#[tactic(auto, using(crate::proofs::Fitting::fits_int))]
+fn function(
+    rt: &impl Abort,
+    alloc: Global,
+    machine: &mut Machine,
+    number: i128,
+) -> Result<ObjectId, NoMemory> {
+    expect_room(rt, machine);
     let mut defaults = Items::new(alloc);
-    defaults.push(Value::Int(5))?;
-    let id = machine.new_function(NodeId(1), 2, defaults)?;
-    let later = list(&rt, alloc, &mut machine)?;
-    expect_function(&rt, &machine, id);
-    let shown = format!(in alloc; "{:?}", machine.function(id))?;
-    assert_eq!(rt; shown.as_str(), "(NodeId(1), 2, [Int(5)])");
-    expect_list(&rt, &machine, later);
+    defaults.push(Value::Int(number))?;
+    machine.new_function(NodeId(1), 2, defaults)
+}
+
+#[tactic(auto, using(crate::proofs::Fitting::fits_list), unfolding(crate::specs::Objects::defaults))]
+fn set_default(rt: &impl Abort, machine: &mut Machine, id: ObjectId, later: ObjectId) {
+    expect_function(rt, machine, id);
     assert!(rt; machine.function(id).2.len() == 1);
+    expect_list(rt, machine, later);
     machine.function_set(id, 0, Value::List(later));
-    expect_function(&rt, &machine, id);
-    let shown = format!(in alloc; "{:?}", machine.function(id))?;
-    assert_eq!(rt; shown.as_str(), "(NodeId(1), 2, [List(ObjectId(1))])");
+}
+
+fn function_shows(
+    rt: &impl Abort,
+    alloc: Global,
+    machine: &Machine,
+    id: ObjectId,
+    expected: &str,
+) -> Result<(), NoMemory> {
+    expect_function(rt, machine, id);
+    let (cell, number, defaults) = machine.function(id);
+    let shown = format!(in alloc; "{cell:?} {number} {defaults:?}")?;
+    assert_eq!(rt; shown.as_str(), expected);
+    Ok(())
+}
+
+#[test]
+fn a_default_may_name_a_later_object(rt: HostRuntime) -> Result<(), Fail> {
+    let alloc = rt.alloc();
+    let mut machine = entered(alloc)?;
+    let id = function(&rt, alloc, &mut machine, 5)?;
+    let later = list(&rt, alloc, &mut machine)?;
+    function_shows(&rt, alloc, &machine, id, "NodeId(1) 2 [Int(5)]")?;
+    set_default(&rt, &mut machine, id, later);
+    function_shows(&rt, alloc, &machine, id, "NodeId(1) 2 [List(ObjectId(1))]")?;
     Ok(())
 }
