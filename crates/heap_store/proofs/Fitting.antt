@@ -1,12 +1,11 @@
 -- Single references, and what an object's kind says of it.
 use Rattle.std.proofs.Common.{◌≡◌, ℕ, Bool, List, refl, IsTrue, Option, Some, None, slice_get}
 use Rattle.std.specs.Prelude.{ℤ, option_map}
-use Rattle.star_value.specs.declared.value.Value.{Value, fold-roll-Value}
+use Rattle.star_value.specs.declared.value.Value.{fold-roll-Value}
 use Rattle.star_value.specs.declared.value.Value.TheVariants as value
 use Rattle.star_meaning.specs.State.{Object, AList, ADict, AFunction}
 use Rattle.star_meaning.specs.Validity.{is_list, is_dict, is_function, fits, fits_step}
 use Rattle.heap_store.specs.Objects.{kind_of}
-use Rattle.heap_store.specs.declared.kind.Kind.{Kind}
 use Rattle.heap_store.specs.declared.kind.Kind.TheVariants as kind
 
 pub fits_list : (os : List (Object ℕ)) (id : ℕ) → IsTrue (is_list (slice_get os id)) → IsTrue (fits os (value.List id))

@@ -1,5 +1,5 @@
 -- Each change of a machine leaves a machine.
-use Rattle.std.proofs.Common.{◌≡◌, ℕ, suc, zero, ◌+◌, ◌*◌, ◌<◌, ◌≤◌, Bool, true, false, ◌&&◌, ◌||◌, List, [], ◌∷◌, ◌++◌, length, refl, arith, IsTrue, Option, Some, None, slice_get, slice_set, get_or, length-append, sym, ap, ◌∙◌, subst}
+use Rattle.std.proofs.Common.{◌≡◌, ℕ, suc, zero, ◌*◌, ◌<◌, Bool, true, false, ◌||◌, List, [], ◌∷◌, ◌++◌, length, refl, arith, IsTrue, Option, Some, None, slice_get, slice_set, get_or, length-append, ap, ◌∙◌, subst}
 use Rattle.std.specs.Ordering.{match_ordering}
 use Rattle.std.specs.Prelude.{IfSome}
 use Rattle.std.proofs.Math.ListN.{length-set}
@@ -12,12 +12,12 @@ use Rattle.std.specs.declared.cmp.Ordering.TheVariants.{Less, Equal, Greater}
 use Rattle.chex_base.specs.TextOrder.{text_cmp}
 use Rattle.star_value.specs.declared.key.Key.{Key}
 use Rattle.star_value.specs.declared.value.Value.{Value}
-use Rattle.star_meaning.specs.State.{Object, AList, ADict, AFunction, State, items_of, pairs_of, parts_of, dict_put, dict_without, function, object, with_list, with_dict}
+use Rattle.star_meaning.specs.State.{Object, AList, ADict, AFunction, items_of, pairs_of, parts_of, dict_put, dict_without, function, object, with_list, with_dict}
 use Rattle.star_meaning.specs.Validity.{MachineState, IsMachine, is_list, is_dict, is_function, fits, all_in_object, are_distinct, has_distinct_keys}
 use Rattle.heap_store.specs.Objects.{defaults, defaults_in, emptied, with_defaults, with_nothing}
 use Rattle.heap_store.proofs.Tested.{and_left, and_right, and_both, all_push, all_set, all_insert, all_remove}
 use Rattle.heap_store.proofs.PairLemmas.{all_put, all_without, distinct_put, distinct_without}
-use Rattle.heap_store.proofs.References.{Stay, Alike, object_fits, objects_stay, globals_stay, stay_new, stay_set}
+use Rattle.heap_store.proofs.References.{Alike, object_fits, objects_stay, globals_stay, stay_new, stay_set}
 
 abbrev pub Objects : Type 0
 Objects = List (Object ℕ)

@@ -1,8 +1,7 @@
 -- Which references stay good when objects are added or changed.
-use Rattle.std.proofs.Common.{◌≡◌, ℕ, suc, zero, Bool, true, false, ◌&&◌, List, [], ◌∷◌, ◌++◌, map, refl, subst, IsTrue, Option, Some, None, slice_get, slice_set}
+use Rattle.std.proofs.Common.{◌≡◌, ℕ, suc, zero, Bool, false, List, [], ◌∷◌, ◌++◌, map, refl, subst, IsTrue, Option, Some, None, slice_get, slice_set}
 use Rattle.std.specs.List.{list_all}
-use Rattle.star_value.specs.declared.key.Key.{Key}
-use Rattle.star_value.specs.declared.value.Value.{Value, fold-Value, fold-roll-Value, ind-Value, roll-Value, map-Value}
+use Rattle.star_value.specs.declared.value.Value.{Value, fold-roll-Value, ind-Value, roll-Value, map-Value}
 use Rattle.star_value.specs.declared.value.Value.TheOpen.{Value-F}
 use Rattle.star_meaning.specs.State.{Object, AList, ADict, AFunction}
 use Rattle.star_meaning.specs.Validity.{is_list, is_dict, is_function, fits, fits_step, all_in_object}

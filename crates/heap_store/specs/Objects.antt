@@ -1,6 +1,6 @@
 -- What a machine's calls say beside the reads and changes of the language: the kind of an object, a list or dict that is
 -- cleared, and the defaults of a function.
-use Rattle.std.specs.Prelude.{ℕ, List, [], Option, Some, None, if◌then◌else◌, slice_get, slice_set}
+use Rattle.std.specs.Prelude.{ℕ, List, [], Option, Some, None, if◌then◌else◌, slice_set}
 use Rattle.star_value.specs.declared.value.Value.{Value}
 use Rattle.star_meaning.specs.State.{Object, AList, ADict, AFunction, State, function, object, with_list, with_dict}
 use Rattle.star_meaning.specs.Validity.{is_list}

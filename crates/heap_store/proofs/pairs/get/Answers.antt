@@ -1,4 +1,4 @@
-use Rattle.std.proofs.Common.{◌≡◌, ◌<◌, ◌≤◌, length, arith}
+use Rattle.std.proofs.Common.{◌<◌, ◌≤◌, length, arith}
 use Rattle.heap_store.proofs.PairLemmas.{got_place, got_nothing}
 use Rattle.heap_store.proofs.pairs.get.Goals as goal
 

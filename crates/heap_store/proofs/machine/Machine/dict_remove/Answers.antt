@@ -1,4 +1,4 @@
-use Rattle.std.proofs.Common.{◌≡◌, refl, IsTrue, slice_get}
+use Rattle.std.proofs.Common.{refl, IsTrue, slice_get}
 use Rattle.star_meaning.specs.State.{ADict, pairs_of, object, dict, dict_get, dict_without, with_dict}
 use Rattle.star_meaning.specs.Validity.{is_dict}
 use Rattle.heap_store.proofs.Kept.{kept_without, made_of, changed_same}
