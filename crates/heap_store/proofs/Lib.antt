@@ -2,4 +2,5 @@ pub mod Tested
 pub mod PairLemmas
 pub mod References
 pub mod Kept
+pub mod Bound
 pub mod Fitting

@@ -1,6 +1,10 @@
 //! The machine.
 ghost use Rattle.std.specs.Prelude.{◌≡◌, ◌<◌, ◌≤◌, ◌*◌, ◌||◌, [], ◌∷◌, ◌++◌, length, reverse, IsTrue, IfOk, IfSome, OnErr, OnOk, slice_get, slice_set, insert, remove, option_map};
+ghost use Rattle.chex_base.specs.TextOrder.{text_cmp};
+ghost use Rattle.std.specs.BTreeMap.{insert_entry};
 ghost use Rattle.std.specs.List.{list_all};
+ghost use Rattle.std.specs.List.Sorted.{IsStrictlySortedBy};
+ghost use Rattle.std.specs.Map.{keys_of};
 ghost use Rattle.std.specs.Option.{option_copied};
 ghost use Rattle.heap_store.specs.Objects.{kind_of, defaults, with_defaults, with_nothing};
 ghost use Rattle.star_meaning.specs.State as state;
@@ -126,14 +130,17 @@ impl Machine {
     }
 
     /// Gives a global name this value, and changes no other name. It takes a number of comparisons
-    /// that grows with the logarithm of the count of names. Where memory is wanting nothing
-    /// changes, and the value is dropped.
+    /// that grows with the logarithm of the count of names, and a copy of the name where that is
+    /// not bound yet. Where memory is wanting nothing changes, and the value is dropped.
     #[tactic(auto, unfolding(star_meaning::specs::State::set_global))]
     pub fn set_global(&mut self, name: &Text, value: Value) -> Result<(), NoMemory>
         requires { IsTrue (fits self.old.state.objects value) }
         ensures ok { OnOk result (self.new ≡ record self.old { state = state.set_global self.old.state name.now value }) }
         ensures err { OnErr result (self.new ≡ self.old) }
     {
+        let Some(value) = rebind(&mut self.globals, name, value) else {
+            return Ok(());
+        };
         let name = name.copy(self.alloc)?;
         self.globals.insert(name, value)?;
         Ok(())
@@ -322,6 +329,22 @@ impl Machine {
         ensures { self.new ≡ record self.old { state = with_defaults self.old.state id (slice_set (defaults self.old.state id) place value) } }
     {
         self.objects[id.0 as usize].set_default(place, value);
+    }
+}
+
+/// Gives a name that is bound this value, without a copy of the name; where it is not bound the
+/// value comes back and nothing changes.
+fn rebind(globals: &mut BTreeMap<Text, Value>, name: &Text, value: Value) -> Option<Value>
+    ensures bound { result ≡ None → globals.new.entries ≡ insert_entry text_cmp globals.old.entries name.now value }
+    ensures free { IfSome result (λ back. (back ≡ value) × (globals.new.entries ≡ globals.old.entries)) }
+    ensures ordered { IsStrictlySortedBy text_cmp (keys_of globals.new.entries) }
+{
+    match globals.get_mut(name) {
+        Some(held) => {
+            *held = value;
+            None
+        }
+        None => Some(value),
     }
 }
 
