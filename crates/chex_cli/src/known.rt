@@ -1,5 +1,5 @@
 //! The cells of the sources that were looked at.
-ghost use Rattle.std.specs.Prelude.{◌≤◌, IfOk, IfErr, length};
+ghost use Rattle.std.specs.Prelude.{◌≡◌, ◌≤◌, [], IfOk, IfErr, length};
 ghost use Rattle.std.specs.Str.{encode_utf8_all};
 ghost use Rattle.chex_cli.specs.Cells as spec;
 
@@ -35,7 +35,9 @@ impl Model for Known {
 
 impl Known {
     /// No cells, which take no memory.
-    pub fn new(alloc: Global) -> Known {
+    pub fn new(alloc: Global) -> Known
+        ensures { result ≡ [] }
+    {
         Known {
             cells: BTreeMap::new(alloc),
         }

@@ -1,5 +1,5 @@
 -- Single references, and what an object's kind says of it.
-use Rattle.std.proofs.Common.{◌≡◌, ℕ, Bool, List, refl, IsTrue, Option, Some, None, slice_get}
+use Rattle.std.proofs.Common.{◌≡◌, ℕ, Bool, ◌||◌, List, refl, IsTrue, Option, Some, None, slice_get}
 use Rattle.std.specs.Prelude.{ℤ, option_map}
 use Rattle.star_value.specs.declared.value.Value.{fold-roll-Value}
 use Rattle.star_value.specs.declared.value.Value.TheVariants as value
@@ -37,3 +37,9 @@ kind_function (Some (AList items)) h = absurd (cc)
 kind_function (Some (ADict pairs)) h = absurd (cc)
 kind_function (Some (AFunction cell number defaults)) h = refl
 kind_function None h = absurd (cc)
+
+pub cleared_dict : (o : Option (Object ℕ)) → IsTrue (is_dict o) → IsTrue (is_list o || is_dict o)
+cleared_dict (Some (AList items)) h = refl
+cleared_dict (Some (ADict pairs)) h = refl
+cleared_dict (Some (AFunction cell number defaults)) h = h
+cleared_dict None h = h

@@ -44,6 +44,7 @@ impl Model for Object {
 }
 
 impl Object {
+    /// The list of these items. It takes no memory.
     pub fn list(items: Vec<Value>) -> Object
         ensures { result ≡ AList items.items }
     {
@@ -52,6 +53,7 @@ impl Object {
         }
     }
 
+    /// The dict without a pair. It takes no memory.
     pub fn dict(alloc: Global) -> Object
         ensures { result ≡ ADict [] }
     {
@@ -60,6 +62,7 @@ impl Object {
         }
     }
 
+    /// The function of this number in a cell, with the values of its defaults. It takes no memory.
     pub fn function(cell: NodeId, number: u32, defaults: Values) -> Object
         ensures { result ≡ AFunction cell number defaults }
     {
@@ -68,6 +71,7 @@ impl Object {
         }
     }
 
+    /// What the object is.
     pub fn kind(&self) -> Kind
         ensures { result ≡ kind_of self.now }
     {
@@ -78,6 +82,7 @@ impl Object {
         }
     }
 
+    /// The items of a list.
     pub fn items(&self) -> &[Value]
         requires { IsTrue (is_list (Some self.now)) }
         ensures { result.now ≡ items_of (Some self.now) }
@@ -89,6 +94,7 @@ impl Object {
         }
     }
 
+    /// The pairs of a dict, in order of insertion.
     pub fn pairs(&self) -> &[Pair]
         requires { IsTrue (is_dict (Some self.now)) }
         ensures { result.now ≡ pairs_of (Some self.now) }
@@ -100,6 +106,7 @@ impl Object {
         }
     }
 
+    /// The cell of a function, its number there, and the values of its defaults.
     pub fn parts(&self) -> (NodeId, u32, &[Value])
         requires { IsTrue (is_function (Some self.now)) }
         ensures { parts_of (Some self.now) ≡ Some (result.0, result.1, result.2.now) }
@@ -111,6 +118,8 @@ impl Object {
         }
     }
 
+    /// Puts a value into a list at a place or at its end; what stands behind moves on by one. Where
+    /// memory is wanting nothing changes, and the value is dropped.
     pub fn insert(&mut self, place: usize, value: Value) -> Result<(), NoMemory>
         requires kind { IsTrue (is_list (Some self.old)) }
         requires within { place ≤ length (items_of (Some self.old)) }
@@ -125,6 +134,7 @@ impl Object {
         Ok(())
     }
 
+    /// Puts a value in the place of an item of a list.
     pub fn set(&mut self, place: usize, value: Value)
         requires kind { IsTrue (is_list (Some self.old)) }
         requires within { place < length (items_of (Some self.old)) }
@@ -137,6 +147,7 @@ impl Object {
         }
     }
 
+    /// Takes an item out of a list; what stands behind closes up.
     pub fn remove(&mut self, place: usize) -> Value
         requires kind { IsTrue (is_list (Some self.old)) }
         requires within { place < length (items_of (Some self.old)) }
@@ -150,6 +161,7 @@ impl Object {
         }
     }
 
+    /// Takes all items out of a list, or all pairs out of a dict. A function stays as it is.
     pub fn clear(&mut self)
         ensures { self.new ≡ emptied self.old }
     {
@@ -160,6 +172,8 @@ impl Object {
         }
     }
 
+    /// Gives a key of a dict this value: a present key keeps its place, and a new one goes last. Where
+    /// memory is wanting nothing changes, and the key and the value are dropped.
     pub fn put(&mut self, key: Key, value: Value) -> Result<(), NoMemory>
         requires { IsTrue (is_dict (Some self.old)) }
         ensures ok { OnOk result (self.new ≡ ADict (state.dict_put (pairs_of (Some self.old)) key value)) }
@@ -173,6 +187,7 @@ impl Object {
         Ok(())
     }
 
+    /// Takes a key with its value out of a dict, if it is there; the pairs behind it close up.
     pub fn take(&mut self, key: &Key) -> Option<Value>
         requires { IsTrue (is_dict (Some self.old)) }
         ensures value { result ≡ state.dict_get (pairs_of (Some self.old)) key.now }
@@ -185,6 +200,7 @@ impl Object {
         }
     }
 
+    /// Puts a value in the place of a default of a function.
     pub fn set_default(&mut self, place: usize, value: Value)
         requires kind { IsTrue (is_function (Some self.old)) }
         requires within { place < length (defaults_in (parts_of (Some self.old))) }

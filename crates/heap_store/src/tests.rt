@@ -271,6 +271,12 @@ fn a_key_that_is_put_again_keeps_its_place(rt: HostRuntime) -> Result<(), Fail> 
     Ok(())
 }
 
+#[tactic(auto, using(crate::proofs::Fitting::cleared_dict))]
+fn clear_dict(rt: &impl Abort, machine: &mut Machine, id: ObjectId) {
+    expect_dict(rt, machine, id);
+    machine.clear(id);
+}
+
 #[test]
 fn a_removed_key_closes_up(rt: HostRuntime) -> Result<(), Fail> {
     let alloc = rt.alloc();
@@ -284,6 +290,8 @@ fn a_removed_key_closes_up(rt: HostRuntime) -> Result<(), Fail> {
     has_pairs(&rt, &machine, id, 2);
     pair_shows(&rt, alloc, &machine, id, 0, "Int(2) Int(20)")?;
     pair_shows(&rt, alloc, &machine, id, 1, "Int(1) Int(12)")?;
+    clear_dict(&rt, &mut machine, id);
+    has_pairs(&rt, &machine, id, 0);
     Ok(())
 }
 
