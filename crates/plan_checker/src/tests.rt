@@ -1,7 +1,8 @@
 //! Texts whose verdicts were worked out by hand.
 
-use crate::{CheckFault, check};
-use chex_base::NodeId;
+use crate::CheckFault::{self, NotPlan, OverBudget, WrongChild};
+use crate::check;
+use chex_base::{NoMemory, NodeId};
 use plan_type::{Budget, Costs, Reach, Row};
 use sqlite_items::Items;
 use std::alloc::Global;
@@ -65,179 +66,200 @@ fn run(
     Ok(())
 }
 
-fn not_plan(line: u32) -> Expected {
-    Err(CheckFault::NotPlan { line })
+/// Texts over a fan of three, whose held blocks may be one.
+const FAN_TEXTS: [(&str, &str, Expected); 18] = [
+    (
+        "none held",
+        "chex-plan 1\n1 1 free\n2 2 free\n2 3 free\n2 4 free\n",
+        Ok((33, 0)),
+    ),
+    (
+        "held for two",
+        "chex-plan 1\n1 1 free\n2 2 hold\n2 3 hold\n2 4 free\n",
+        Ok((13, 1)),
+    ),
+    ("empty", "", Err(NotPlan { line: 1 })),
+    (
+        "no newline at the head's end",
+        "chex-plan 1",
+        Err(NotPlan { line: 1 }),
+    ),
+    (
+        "no newline at the end",
+        "chex-plan 1\n1 1 free",
+        Err(NotPlan { line: 2 }),
+    ),
+    (
+        "depth 0",
+        "chex-plan 1\n0 1 free\n",
+        Err(NotPlan { line: 2 }),
+    ),
+    (
+        "two levels deeper",
+        "chex-plan 1\n1 1 free\n3 2 free\n",
+        Err(NotPlan { line: 3 }),
+    ),
+    (
+        "number 0 held",
+        "chex-plan 1\n1 1 hold\n",
+        Err(NotPlan { line: 2 }),
+    ),
+    (
+        "a leading zero",
+        "chex-plan 1\n1 01 free\n",
+        Err(NotPlan { line: 2 }),
+    ),
+    (
+        "five digits",
+        "chex-plan 1\n1 10000 free\n",
+        Err(NotPlan { line: 2 }),
+    ),
+    (
+        "a carriage return",
+        "chex-plan 1\n1 1 free\r\n",
+        Err(NotPlan { line: 2 }),
+    ),
+    (
+        "two blanks",
+        "chex-plan 1\n1  1 free\n",
+        Err(NotPlan { line: 2 }),
+    ),
+    (
+        "a late faulty line goes before a wrong child",
+        "chex-plan 1\n1 2 free\n2 3 free\n\n",
+        Err(NotPlan { line: 4 }),
+    ),
+    (
+        "twice",
+        "chex-plan 1\n1 1 free\n2 2 free\n2 2 free\n",
+        Err(WrongChild { node: NodeId(2) }),
+    ),
+    (
+        "a missing node",
+        "chex-plan 1\n1 1 free\n2 2 free\n2 4 free\n",
+        Err(WrongChild { node: NodeId(3) }),
+    ),
+    (
+        "nothing stands",
+        "chex-plan 1\n",
+        Err(WrongChild { node: NodeId(1) }),
+    ),
+    (
+        "no such node",
+        "chex-plan 1\n1 1 free\n2 9 free\n",
+        Err(WrongChild { node: NodeId(9) }),
+    ),
+    (
+        "under the wrong node",
+        "chex-plan 1\n1 1 free\n2 2 free\n3 3 free\n2 4 free\n",
+        Err(WrongChild { node: NodeId(3) }),
+    ),
+];
+
+/// A node of 10 steps under 0 with three children of 1 step; its snapshot has these bytes.
+fn fan(alloc: Global, bytes: u64) -> Result<Costs, NoMemory> {
+    let rows = [
+        done(0, 10, bytes),
+        done(1, 1, 100),
+        done(1, 1, 100),
+        done(1, 1, 100),
+    ];
+    Ok(Costs {
+        rows: Items::from_slice(alloc, &rows)?,
+    })
 }
 
-fn wrong(node: u32) -> Expected {
-    Err(CheckFault::WrongChild { node: NodeId(node) })
-}
-
-fn over(node: u32, blocks: u64) -> Expected {
-    Err(CheckFault::OverBudget {
-        node: NodeId(node),
-        blocks,
+/// Node 1 with the children 2 and 3, and 4 and 5 under 2.
+fn deep(alloc: Global) -> Result<Costs, NoMemory> {
+    let rows = [
+        done(0, 10, 4096),
+        done(1, 20, 4096),
+        done(1, 1, 4096),
+        done(2, 1, 4096),
+        done(2, 1, 4096),
+    ];
+    Ok(Costs {
+        rows: Items::from_slice(alloc, &rows)?,
     })
 }
 
 #[test]
-fn verdicts(rt: HostRuntime) -> Result<(), Fail> {
+fn texts_of_a_fan(rt: HostRuntime) -> Result<(), Fail> {
     let alloc = rt.alloc();
-    let fan = Costs {
-        rows: Items::from_slice(
-            alloc,
-            &[
-                done(0, 10, 4096),
-                done(1, 1, 100),
-                done(1, 1, 100),
-                done(1, 1, 100),
-            ],
-        )?,
-    };
-    let rows: [(&str, &str, Expected); 18] = [
-        (
-            "none held",
-            "chex-plan 1\n1 1 free\n2 2 free\n2 3 free\n2 4 free\n",
-            Ok((33, 0)),
-        ),
-        (
-            "held for two",
-            "chex-plan 1\n1 1 free\n2 2 hold\n2 3 hold\n2 4 free\n",
-            Ok((13, 1)),
-        ),
-        ("empty", "", not_plan(1)),
-        ("no newline at the head's end", "chex-plan 1", not_plan(1)),
-        (
-            "no newline at the end",
-            "chex-plan 1\n1 1 free",
-            not_plan(2),
-        ),
-        ("depth 0", "chex-plan 1\n0 1 free\n", not_plan(2)),
-        (
-            "two levels deeper",
-            "chex-plan 1\n1 1 free\n3 2 free\n",
-            not_plan(3),
-        ),
-        ("number 0 held", "chex-plan 1\n1 1 hold\n", not_plan(2)),
-        ("a leading zero", "chex-plan 1\n1 01 free\n", not_plan(2)),
-        ("five digits", "chex-plan 1\n1 10000 free\n", not_plan(2)),
-        (
-            "a carriage return",
-            "chex-plan 1\n1 1 free\r\n",
-            not_plan(2),
-        ),
-        ("two blanks", "chex-plan 1\n1  1 free\n", not_plan(2)),
-        (
-            "a late faulty line goes before a wrong child",
-            "chex-plan 1\n1 2 free\n2 3 free\n\n",
-            not_plan(4),
-        ),
-        (
-            "twice",
-            "chex-plan 1\n1 1 free\n2 2 free\n2 2 free\n",
-            wrong(2),
-        ),
-        (
-            "a missing node",
-            "chex-plan 1\n1 1 free\n2 2 free\n2 4 free\n",
-            wrong(3),
-        ),
-        ("nothing stands", "chex-plan 1\n", wrong(1)),
-        (
-            "no such node",
-            "chex-plan 1\n1 1 free\n2 9 free\n",
-            wrong(9),
-        ),
-        (
-            "under the wrong node",
-            "chex-plan 1\n1 1 free\n2 2 free\n3 3 free\n2 4 free\n",
-            wrong(3),
-        ),
-    ];
-    for (name, text, expected) in rows {
-        run(&rt, alloc, &fan, 1, name, text, expected)?;
+    let costs = fan(alloc, 4096)?;
+    for (name, text, expected) in FAN_TEXTS {
+        run(&rt, alloc, &costs, 1, name, text, expected)?;
     }
-    let wide = Costs {
-        rows: Items::from_slice(
-            alloc,
-            &[
-                done(0, 10, 8193),
-                done(1, 1, 100),
-                done(1, 1, 100),
-                done(1, 1, 100),
-            ],
-        )?,
-    };
-    let held = "chex-plan 1\n1 1 free\n2 2 hold\n2 3 hold\n2 4 free\n";
-    run(
-        &rt,
-        alloc,
-        &wide,
-        3,
+    Ok(())
+}
+
+/// Texts with a budget of so many blocks: over a fan whose held node has three blocks, and over the deeper tree.
+const WIDE_TEXTS: [(&str, u32, &str, Expected); 2] = [
+    (
         "three blocks fit three",
-        held,
+        3,
+        "chex-plan 1\n1 1 free\n2 2 hold\n2 3 hold\n2 4 free\n",
         Ok((13, 3)),
-    )?;
-    run(
-        &rt,
-        alloc,
-        &wide,
-        2,
+    ),
+    (
         "three blocks and room for two",
-        held,
-        over(1, 3),
-    )?;
-    let deep = Costs {
-        rows: Items::from_slice(
-            alloc,
-            &[
-                done(0, 10, 4096),
-                done(1, 20, 4096),
-                done(1, 1, 4096),
-                done(2, 1, 4096),
-                done(2, 1, 4096),
-            ],
-        )?,
-    };
-    let turns = "chex-plan 1\n1 1 free\n2 3 hold\n2 2 free\n3 4 hold\n3 5 free\n";
-    run(
-        &rt,
-        alloc,
-        &deep,
-        1,
+        2,
+        "chex-plan 1\n1 1 free\n2 2 hold\n2 3 hold\n2 4 free\n",
+        Err(OverBudget {
+            node: NodeId(1),
+            blocks: 3,
+        }),
+    ),
+];
+
+const DEEP_TEXTS: [(&str, u32, &str, Expected); 3] = [
+    (
         "each held in its turn",
-        turns,
-        Ok((33, 1)),
-    )?;
-    let nested = "chex-plan 1\n1 1 free\n2 2 hold\n3 4 hold\n3 5 hold\n2 3 hold\n";
-    run(
-        &rt,
-        alloc,
-        &deep,
         1,
+        "chex-plan 1\n1 1 free\n2 3 hold\n2 2 free\n3 4 hold\n3 5 free\n",
+        Ok((33, 1)),
+    ),
+    (
         "the second of two holds",
-        nested,
-        over(2, 2),
-    )?;
-    run(
-        &rt,
-        alloc,
-        &deep,
-        0,
+        1,
+        "chex-plan 1\n1 1 free\n2 2 hold\n3 4 hold\n3 5 hold\n2 3 hold\n",
+        Err(OverBudget {
+            node: NodeId(2),
+            blocks: 2,
+        }),
+    ),
+    (
         "the first of two holds",
-        nested,
-        over(1, 1),
-    )?;
+        0,
+        "chex-plan 1\n1 1 free\n2 2 hold\n3 4 hold\n3 5 hold\n2 3 hold\n",
+        Err(OverBudget {
+            node: NodeId(1),
+            blocks: 1,
+        }),
+    ),
+];
+
+#[test]
+fn budgets_are_kept(rt: HostRuntime) -> Result<(), Fail> {
+    let alloc = rt.alloc();
+    let wide = fan(alloc, 8193)?;
+    for (name, most, text, expected) in WIDE_TEXTS {
+        run(&rt, alloc, &wide, most, name, text, expected)?;
+    }
+    let deep = deep(alloc)?;
+    for (name, most, text, expected) in DEEP_TEXTS {
+        run(&rt, alloc, &deep, most, name, text, expected)?;
+    }
+    Ok(())
+}
+
+#[test]
+fn an_unreached_node_stands_in_no_plan(rt: HostRuntime) -> Result<(), Fail> {
+    let alloc = rt.alloc();
     let cut = Costs {
         rows: Items::from_slice(alloc, &[failed(0, 5), unreached(1)])?,
     };
-    run(
-        &rt,
-        alloc,
-        &cut,
-        1,
-        "an unreached node",
-        "chex-plan 1\n1 1 free\n2 2 free\n",
-        wrong(2),
-    )
+    let text = "chex-plan 1\n1 1 free\n2 2 free\n";
+    let expected = Err(WrongChild { node: NodeId(2) });
+    run(&rt, alloc, &cut, 1, "an unreached node", text, expected)
 }

@@ -18,23 +18,18 @@ fn done(parent: u32, steps: u64, bytes: u64) -> Row {
     }
 }
 
-/// What is expected of the least plan.
-#[derive(Drop)]
-struct Expected<'a> {
+/// What is expected of the least plan with a budget of so many blocks of 4,096 bytes.
+struct Expected {
+    name: &'static str,
+    most: u32,
     cost: u64,
     peak: u64,
-    text: &'a str,
+    text: &'static str,
 }
 
 #[tactic(auto, using(crate::proofs::Shallow::shallow, plan_type::proofs::Writable::writable))]
-fn check(
-    rt: &impl Abort,
-    alloc: Global,
-    name: &str,
-    rows: &[Row],
-    most: u32,
-    expected: &Expected<'_>,
-) -> Result<(), Fail> {
+fn check(rt: &impl Abort, alloc: Global, rows: &[Row], expected: &Expected) -> Result<(), Fail> {
+    let (name, most) = (expected.name, expected.most);
     let costs = Costs {
         rows: Items::from_slice(alloc, rows)?,
     };
@@ -50,53 +45,83 @@ fn check(
     Ok(())
 }
 
+/// A node of 10 steps under 0 with three children of 1 step; its snapshot has these bytes.
+fn fan(bytes: u64) -> [Row; 4] {
+    [
+        done(0, 10, bytes),
+        done(1, 1, 100),
+        done(1, 1, 100),
+        done(1, 1, 100),
+    ]
+}
+
+/// Fans, by the bytes of the snapshot.
+const FANS: [(u64, Expected); 4] = [
+    (
+        4096,
+        Expected {
+            name: "a fan and no room",
+            most: 0,
+            cost: 33,
+            peak: 0,
+            text: "chex-plan 1\n1 1 free\n2 2 free\n2 3 free\n2 4 free\n",
+        },
+    ),
+    (
+        4096,
+        Expected {
+            name: "a fan and room for one block",
+            most: 1,
+            cost: 13,
+            peak: 1,
+            text: "chex-plan 1\n1 1 free\n2 2 hold\n2 3 hold\n2 4 free\n",
+        },
+    ),
+    (
+        8193,
+        Expected {
+            name: "three blocks and room for two",
+            most: 2,
+            cost: 33,
+            peak: 0,
+            text: "chex-plan 1\n1 1 free\n2 2 free\n2 3 free\n2 4 free\n",
+        },
+    ),
+    (
+        8193,
+        Expected {
+            name: "three blocks and room for three",
+            most: 3,
+            cost: 13,
+            peak: 3,
+            text: "chex-plan 1\n1 1 free\n2 2 hold\n2 3 hold\n2 4 free\n",
+        },
+    ),
+];
+
+const NOTHING: Expected = Expected {
+    name: "no node",
+    most: 1,
+    cost: 0,
+    peak: 0,
+    text: "chex-plan 1\n",
+};
+
+const IN_TURN: Expected = Expected {
+    name: "two nodes held in turn",
+    most: 1,
+    cost: 33,
+    peak: 1,
+    text: "chex-plan 1\n1 1 free\n2 3 hold\n2 2 free\n3 4 hold\n3 5 free\n",
+};
+
 #[test]
 fn least_plans(rt: HostRuntime) -> Result<(), Fail> {
     let alloc = rt.alloc();
-    let none = Expected {
-        cost: 0,
-        peak: 0,
-        text: "chex-plan 1\n",
-    };
-    check(&rt, alloc, "no node", &[], 1, &none)?;
-    let fan = [
-        done(0, 10, 4096),
-        done(1, 1, 100),
-        done(1, 1, 100),
-        done(1, 1, 100),
-    ];
-    let free = Expected {
-        cost: 33,
-        peak: 0,
-        text: "chex-plan 1\n1 1 free\n2 2 free\n2 3 free\n2 4 free\n",
-    };
-    check(&rt, alloc, "a fan and no room", &fan, 0, &free)?;
-    let held = Expected {
-        cost: 13,
-        peak: 1,
-        text: "chex-plan 1\n1 1 free\n2 2 hold\n2 3 hold\n2 4 free\n",
-    };
-    check(&rt, alloc, "a fan and room for one block", &fan, 1, &held)?;
-    let wide = [
-        done(0, 10, 8193),
-        done(1, 1, 100),
-        done(1, 1, 100),
-        done(1, 1, 100),
-    ];
-    check(&rt, alloc, "three blocks and room for two", &wide, 2, &free)?;
-    let three = Expected {
-        cost: 13,
-        peak: 3,
-        text: "chex-plan 1\n1 1 free\n2 2 hold\n2 3 hold\n2 4 free\n",
-    };
-    check(
-        &rt,
-        alloc,
-        "three blocks and room for three",
-        &wide,
-        3,
-        &three,
-    )?;
+    check(&rt, alloc, &[], &NOTHING)?;
+    for (bytes, expected) in &FANS {
+        check(&rt, alloc, &fan(*bytes), expected)?;
+    }
     let tree = [
         done(0, 10, 4096),
         done(1, 20, 4096),
@@ -104,12 +129,7 @@ fn least_plans(rt: HostRuntime) -> Result<(), Fail> {
         done(2, 1, 4096),
         done(2, 1, 4096),
     ];
-    let turns = Expected {
-        cost: 33,
-        peak: 1,
-        text: "chex-plan 1\n1 1 free\n2 3 hold\n2 2 free\n3 4 hold\n3 5 free\n",
-    };
-    check(&rt, alloc, "two nodes held in turn", &tree, 1, &turns)
+    check(&rt, alloc, &tree, &IN_TURN)
 }
 
 /// One plan of a small tree: who comes later among siblings, and which entries hold.

@@ -11,7 +11,7 @@ use crate::row::{Reach, Row};
 use crate::text::write_plan;
 use chex_base::{NoMemory, NodeId};
 use sqlite_items::Items;
-use std::alloc::Global;
+use std::alloc::{AllocError, Global};
 use std::process::Abort;
 use std::test::Fail;
 
@@ -90,24 +90,44 @@ fn plan<const N: usize>(alloc: Global, entries: [Entry<Plan>; N]) -> Result<Plan
     Ok(Plan::of(Items::from_vec(Vec::from_array(alloc, entries)?)))
 }
 
-/// What is expected of a plan.
-#[derive(Drop)]
-struct Expected<'a> {
+/// A plan, and what is expected of it with a budget of three blocks of 4,096 bytes.
+struct Expected {
+    name: &'static str,
     cost: u64,
     peak: u64,
-    text: &'a str,
-    operations: &'a [Operation],
+    text: &'static str,
+    operations: &'static str,
+}
+
+/// The operations, each with its node and its steps or blocks.
+fn shown(alloc: Global, operations: &[Operation]) -> Result<String, AllocError> {
+    let mut all = String::new(alloc);
+    for operation in operations {
+        let one = match operation {
+            Operation::Reset => format!(in alloc; "reset, ")?,
+            Operation::Compute { node, steps } => {
+                format!(in alloc; "compute {} {steps}, ", node.0)?
+            }
+            Operation::Checkpoint { node, blocks } => {
+                format!(in alloc; "checkpoint {} {blocks}, ", node.0)?
+            }
+            Operation::Restore { node } => format!(in alloc; "restore {}, ", node.0)?,
+            Operation::Evict { node } => format!(in alloc; "evict {}, ", node.0)?,
+        };
+        all.push_str(one.as_str())?;
+    }
+    Ok(all)
 }
 
 #[tactic(auto, using(crate::proofs::Writable::writable))]
 fn check(
     rt: &impl Abort,
     alloc: Global,
-    name: &str,
     rows: &[Row],
     plan: &Plan,
-    expected: &Expected<'_>,
+    expected: &Expected,
 ) -> Result<(), Fail> {
+    let name = expected.name;
     let costs = Costs {
         rows: Items::from_slice(alloc, rows)?,
     };
@@ -123,32 +143,11 @@ fn check(
     assert_eq!(rt; peak, expected.peak, "{name}");
     assert!(rt; peak <= 3, "{name}");
     let operations = plan.operations(alloc, &costs, &budget)?;
-    assert_eq!(rt; operations.as_slice(), expected.operations, "{name}");
+    let operations = shown(alloc, operations.as_slice())?;
+    assert_eq!(rt; operations.as_str(), expected.operations, "{name}");
     let text = write_plan(alloc, plan)?;
     assert_eq!(rt; text.as_str(), expected.text, "{name}");
     Ok(())
-}
-
-fn compute(node: u32, steps: u64) -> Operation {
-    Operation::Compute {
-        node: NodeId(node),
-        steps,
-    }
-}
-
-fn checkpoint(node: u32, blocks: u32) -> Operation {
-    Operation::Checkpoint {
-        node: NodeId(node),
-        blocks,
-    }
-}
-
-fn restore(node: u32) -> Operation {
-    Operation::Restore { node: NodeId(node) }
-}
-
-fn evict(node: u32) -> Operation {
-    Operation::Evict { node: NodeId(node) }
 }
 
 /// One node of 10 steps under 0 with three children of 1 step; its snapshot has these bytes.
@@ -161,139 +160,141 @@ fn fan(bytes: u64) -> [Row; 4] {
     ]
 }
 
+/// The plan of the fan in order of number, whose children's entries hold as these say.
+fn fan_plan(alloc: Global, holds: [bool; 3]) -> Result<Plan, NoMemory> {
+    let [second, third, fourth] = holds;
+    let leaves = [
+        leaf(alloc, 2, second),
+        leaf(alloc, 3, third),
+        leaf(alloc, 4, fourth),
+    ];
+    plan(alloc, [entry(1, false, plan(alloc, leaves)?)])
+}
+
+/// Plans of the fan: the bytes of its snapshot, and which entries hold.
+const FAN_PLANS: [(u64, [bool; 3], Expected); 4] = [
+    (
+        4096,
+        [false, false, false],
+        Expected {
+            name: "none held",
+            cost: 33,
+            peak: 0,
+            text: "chex-plan 1\n1 1 free\n2 2 free\n2 3 free\n2 4 free\n",
+            operations: "reset, compute 1 10, compute 2 1, reset, compute 1 10, compute 3 1, reset, compute 1 10, compute 4 1, ",
+        },
+    ),
+    (
+        4096,
+        [true, true, false],
+        Expected {
+            name: "held for two",
+            cost: 13,
+            peak: 1,
+            text: "chex-plan 1\n1 1 free\n2 2 hold\n2 3 hold\n2 4 free\n",
+            operations: "reset, compute 1 10, checkpoint 1 1, compute 2 1, restore 1, compute 3 1, restore 1, evict 1, compute 4 1, ",
+        },
+    ),
+    (
+        8193,
+        [true, true, false],
+        Expected {
+            name: "8,193 bytes are three blocks",
+            cost: 13,
+            peak: 3,
+            text: "chex-plan 1\n1 1 free\n2 2 hold\n2 3 hold\n2 4 free\n",
+            operations: "reset, compute 1 10, checkpoint 1 3, compute 2 1, restore 1, compute 3 1, restore 1, evict 1, compute 4 1, ",
+        },
+    ),
+    (
+        4096,
+        [true, false, true],
+        Expected {
+            name: "held for the first and the last",
+            cost: 23,
+            peak: 1,
+            text: "chex-plan 1\n1 1 free\n2 2 hold\n2 3 free\n2 4 hold\n",
+            operations: "reset, compute 1 10, checkpoint 1 1, compute 2 1, restore 1, evict 1, compute 3 1, reset, compute 1 10, checkpoint 1 1, compute 4 1, evict 1, ",
+        },
+    ),
+];
+
 #[test]
 fn a_fan_of_three(rt: HostRuntime) -> Result<(), Fail> {
     let alloc = rt.alloc();
-    let none = plan(
-        alloc,
-        [entry(
-            1,
-            false,
-            plan(
-                alloc,
-                [
-                    leaf(alloc, 2, false),
-                    leaf(alloc, 3, false),
-                    leaf(alloc, 4, false),
-                ],
-            )?,
-        )],
-    )?;
-    let expected = Expected {
-        cost: 33,
-        peak: 0,
-        text: "chex-plan 1\n1 1 free\n2 2 free\n2 3 free\n2 4 free\n",
-        operations: &[
-            Operation::Reset,
-            compute(1, 10),
-            compute(2, 1),
-            Operation::Reset,
-            compute(1, 10),
-            compute(3, 1),
-            Operation::Reset,
-            compute(1, 10),
-            compute(4, 1),
-        ],
-    };
-    check(&rt, alloc, "none held", &fan(4096), &none, &expected)?;
-    let two = plan(
-        alloc,
-        [entry(
-            1,
-            false,
-            plan(
-                alloc,
-                [
-                    leaf(alloc, 2, true),
-                    leaf(alloc, 3, true),
-                    leaf(alloc, 4, false),
-                ],
-            )?,
-        )],
-    )?;
-    let expected = Expected {
-        cost: 13,
-        peak: 1,
-        text: "chex-plan 1\n1 1 free\n2 2 hold\n2 3 hold\n2 4 free\n",
-        operations: &[
-            Operation::Reset,
-            compute(1, 10),
-            checkpoint(1, 1),
-            compute(2, 1),
-            restore(1),
-            compute(3, 1),
-            restore(1),
-            evict(1),
-            compute(4, 1),
-        ],
-    };
-    check(&rt, alloc, "held for two", &fan(4096), &two, &expected)?;
-    let expected = Expected {
-        peak: 3,
-        operations: &[
-            Operation::Reset,
-            compute(1, 10),
-            checkpoint(1, 3),
-            compute(2, 1),
-            restore(1),
-            compute(3, 1),
-            restore(1),
-            evict(1),
-            compute(4, 1),
-        ],
-        ..expected
-    };
-    check(
-        &rt,
-        alloc,
-        "8,193 bytes are three blocks",
-        &fan(8193),
-        &two,
-        &expected,
-    )?;
-    let apart = plan(
-        alloc,
-        [entry(
-            1,
-            false,
-            plan(
-                alloc,
-                [
-                    leaf(alloc, 2, true),
-                    leaf(alloc, 3, false),
-                    leaf(alloc, 4, true),
-                ],
-            )?,
-        )],
-    )?;
-    let expected = Expected {
-        cost: 23,
-        peak: 1,
-        text: "chex-plan 1\n1 1 free\n2 2 hold\n2 3 free\n2 4 hold\n",
-        operations: &[
-            Operation::Reset,
-            compute(1, 10),
-            checkpoint(1, 1),
-            compute(2, 1),
-            restore(1),
-            evict(1),
-            compute(3, 1),
-            Operation::Reset,
-            compute(1, 10),
-            checkpoint(1, 1),
-            compute(4, 1),
-            evict(1),
-        ],
-    };
-    check(
-        &rt,
-        alloc,
-        "held for the first and the last",
-        &fan(4096),
-        &apart,
-        &expected,
-    )
+    for (bytes, holds, expected) in &FAN_PLANS {
+        check(
+            &rt,
+            alloc,
+            &fan(*bytes),
+            &fan_plan(alloc, *holds)?,
+            expected,
+        )?;
+    }
+    Ok(())
 }
+
+/// The children of node 1 in a plan of the deeper tree: node 2, under which stand 4 and 5, and node 3.
+fn deep_children(
+    alloc: Global,
+    held: bool,
+    below: [bool; 2],
+) -> Result<(Entry<Plan>, Entry<Plan>), NoMemory> {
+    let [fourth, fifth] = below;
+    let leaves = [leaf(alloc, 4, fourth), leaf(alloc, 5, fifth)];
+    Ok((entry(2, held, plan(alloc, leaves)?), leaf(alloc, 3, true)))
+}
+
+/// A plan of the deeper tree in which node 2 stands before node 3, or after it.
+fn deep_plan(alloc: Global, first: bool, held: bool, below: [bool; 2]) -> Result<Plan, NoMemory> {
+    let (second, third) = deep_children(alloc, held, below)?;
+    let children = if first {
+        [second, third]
+    } else {
+        [third, second]
+    };
+    plan(alloc, [entry(1, false, plan(alloc, children)?)])
+}
+
+/// Plans of the deeper tree: whether node 2 comes before node 3, whether its entry holds, and those of 4 and 5.
+const DEEP_PLANS: [(bool, bool, [bool; 2], Expected); 3] = [
+    (
+        false,
+        false,
+        [true, false],
+        Expected {
+            name: "each held in its turn",
+            cost: 33,
+            peak: 1,
+            text: "chex-plan 1\n1 1 free\n2 3 hold\n2 2 free\n3 4 hold\n3 5 free\n",
+            operations: "reset, compute 1 10, checkpoint 1 1, compute 3 1, restore 1, evict 1, compute 2 20, checkpoint 2 1, compute 4 1, restore 2, evict 2, compute 5 1, ",
+        },
+    ),
+    (
+        true,
+        true,
+        [false, false],
+        Expected {
+            name: "the first held for both",
+            cost: 53,
+            peak: 1,
+            text: "chex-plan 1\n1 1 free\n2 2 hold\n3 4 free\n3 5 free\n2 3 hold\n",
+            operations: "reset, compute 1 10, checkpoint 1 1, compute 2 20, compute 4 1, restore 1, compute 2 20, compute 5 1, restore 1, compute 3 1, evict 1, ",
+        },
+    ),
+    (
+        true,
+        true,
+        [true, true],
+        Expected {
+            name: "both held at once",
+            cost: 33,
+            peak: 2,
+            text: "chex-plan 1\n1 1 free\n2 2 hold\n3 4 hold\n3 5 hold\n2 3 hold\n",
+            operations: "reset, compute 1 10, checkpoint 1 1, compute 2 20, checkpoint 2 1, compute 4 1, restore 2, compute 5 1, evict 2, restore 1, compute 3 1, evict 1, ",
+        },
+    ),
+];
 
 #[test]
 fn a_deeper_tree(rt: HostRuntime) -> Result<(), Fail> {
@@ -305,143 +306,11 @@ fn a_deeper_tree(rt: HostRuntime) -> Result<(), Fail> {
         done(2, 1, 4096),
         done(2, 1, 4096),
     ];
-    let least = plan(
-        alloc,
-        [entry(
-            1,
-            false,
-            plan(
-                alloc,
-                [
-                    leaf(alloc, 3, true),
-                    entry(
-                        2,
-                        false,
-                        plan(alloc, [leaf(alloc, 4, true), leaf(alloc, 5, false)])?,
-                    ),
-                ],
-            )?,
-        )],
-    )?;
-    let expected = Expected {
-        cost: 33,
-        peak: 1,
-        text: "chex-plan 1\n1 1 free\n2 3 hold\n2 2 free\n3 4 hold\n3 5 free\n",
-        operations: &[
-            Operation::Reset,
-            compute(1, 10),
-            checkpoint(1, 1),
-            compute(3, 1),
-            restore(1),
-            evict(1),
-            compute(2, 20),
-            checkpoint(2, 1),
-            compute(4, 1),
-            restore(2),
-            evict(2),
-            compute(5, 1),
-        ],
-    };
-    check(
-        &rt,
-        alloc,
-        "each held in its turn",
-        &rows,
-        &least,
-        &expected,
-    )?;
-    let both = plan(
-        alloc,
-        [entry(
-            1,
-            false,
-            plan(
-                alloc,
-                [
-                    entry(
-                        2,
-                        true,
-                        plan(alloc, [leaf(alloc, 4, false), leaf(alloc, 5, false)])?,
-                    ),
-                    leaf(alloc, 3, true),
-                ],
-            )?,
-        )],
-    )?;
-    let expected = Expected {
-        cost: 53,
-        peak: 1,
-        text: "chex-plan 1\n1 1 free\n2 2 hold\n3 4 free\n3 5 free\n2 3 hold\n",
-        operations: &[
-            Operation::Reset,
-            compute(1, 10),
-            checkpoint(1, 1),
-            compute(2, 20),
-            compute(4, 1),
-            restore(1),
-            compute(2, 20),
-            compute(5, 1),
-            restore(1),
-            compute(3, 1),
-            evict(1),
-        ],
-    };
-    check(
-        &rt,
-        alloc,
-        "the first held for both",
-        &rows,
-        &both,
-        &expected,
-    )?;
-    let nested = plan(
-        alloc,
-        [entry(
-            1,
-            false,
-            plan(
-                alloc,
-                [
-                    entry(
-                        2,
-                        true,
-                        plan(alloc, [leaf(alloc, 4, true), leaf(alloc, 5, true)])?,
-                    ),
-                    leaf(alloc, 3, true),
-                ],
-            )?,
-        )],
-    )?;
-    let expected = Expected {
-        cost: 33,
-        peak: 2,
-        text: "chex-plan 1\n1 1 free\n2 2 hold\n3 4 hold\n3 5 hold\n2 3 hold\n",
-        operations: &[
-            Operation::Reset,
-            compute(1, 10),
-            checkpoint(1, 1),
-            compute(2, 20),
-            checkpoint(2, 1),
-            compute(4, 1),
-            restore(2),
-            compute(5, 1),
-            evict(2),
-            restore(1),
-            compute(3, 1),
-            evict(1),
-        ],
-    };
-    check(&rt, alloc, "both held at once", &rows, &nested, &expected)
-}
-
-fn row(parent: u32, end: Reach, steps: u64, bytes: u64, text: u8) -> Row {
-    Row {
-        parent: NodeId(parent),
-        end,
-        steps,
-        bytes,
-        text: [text; 32],
+    for (first, held, below, expected) in &DEEP_PLANS {
+        let plan = deep_plan(alloc, *first, *held, *below)?;
+        check(&rt, alloc, &rows, &plan, expected)?;
     }
+    Ok(())
 }
 
 fn is_sound(alloc: Global, rows: &[Row]) -> Result<bool, NoMemory> {
@@ -451,114 +320,141 @@ fn is_sound(alloc: Global, rows: &[Row]) -> Result<bool, NoMemory> {
     Ok(costs.sound())
 }
 
+/// A row: its parent, how it ended, its steps, its bytes, and each byte of its text's digest.
+type Told = (u32, Reach, u64, u64, u8);
+
+fn row((parent, end, steps, bytes, text): Told) -> Row {
+    Row {
+        parent: NodeId(parent),
+        end,
+        steps,
+        bytes,
+        text: [text; 32],
+    }
+}
+
+/// Single rows, and whether they are sound.
+const SINGLE: [(&str, Told, bool); 15] = [
+    ("a done one", (0, Reach::Done, 1, 9, 7), true),
+    ("the most steps", (0, Reach::Done, 1_000_000, 9, 7), true),
+    ("no steps", (0, Reach::Done, 0, 9, 7), false),
+    ("too many steps", (0, Reach::Done, 1_000_001, 9, 7), false),
+    ("its own parent", (1, Reach::Done, 1, 9, 7), false),
+    ("a parent above", (2, Reach::Done, 1, 9, 7), false),
+    ("a failed one", (0, Reach::Failed, 1, 0, 7), true),
+    (
+        "a failed one with bytes",
+        (0, Reach::Failed, 1, 1, 7),
+        false,
+    ),
+    (
+        "a failed one with no steps",
+        (0, Reach::Failed, 0, 0, 7),
+        false,
+    ),
+    (
+        "a failed one with too many steps",
+        (0, Reach::Failed, 1_000_001, 0, 7),
+        false,
+    ),
+    ("unreached under 0", (0, Reach::Unreached, 0, 0, 0), false),
+    (
+        "unreached with steps",
+        (0, Reach::Unreached, 1, 0, 0),
+        false,
+    ),
+    (
+        "unreached with bytes",
+        (0, Reach::Unreached, 0, 1, 0),
+        false,
+    ),
+    (
+        "unreached with a text",
+        (0, Reach::Unreached, 0, 0, 1),
+        false,
+    ),
+    ("no bytes", (0, Reach::Done, 1, 0, 0), true),
+];
+
+const DONE: Told = (0, Reach::Done, 5, 9, 7);
+
+const FAILED: Told = (0, Reach::Failed, 5, 0, 7);
+
+/// Two rows, and whether they are sound.
+const PAIRS: [(&str, Told, Told, bool); 8] = [
+    (
+        "reached below a done one",
+        DONE,
+        (1, Reach::Done, 5, 9, 7),
+        true,
+    ),
+    (
+        "unreached below a done one",
+        DONE,
+        (1, Reach::Unreached, 0, 0, 0),
+        false,
+    ),
+    (
+        "unreached below a failed one",
+        FAILED,
+        (1, Reach::Unreached, 0, 0, 0),
+        true,
+    ),
+    (
+        "reached below a failed one",
+        FAILED,
+        (1, Reach::Done, 5, 9, 7),
+        false,
+    ),
+    (
+        "failed below a failed one",
+        FAILED,
+        (1, Reach::Failed, 5, 0, 7),
+        false,
+    ),
+    (
+        "unreached with steps below a failed one",
+        FAILED,
+        (1, Reach::Unreached, 1, 0, 0),
+        false,
+    ),
+    (
+        "unreached with bytes below a failed one",
+        FAILED,
+        (1, Reach::Unreached, 0, 1, 0),
+        false,
+    ),
+    (
+        "unreached with a text below a failed one",
+        FAILED,
+        (1, Reach::Unreached, 0, 0, 1),
+        false,
+    ),
+];
+
 #[test]
 fn which_rows_are_sound(rt: HostRuntime) -> Result<(), Fail> {
     let alloc = rt.alloc();
-    let one: [(&str, Row, bool); 15] = [
-        ("a done one", row(0, Reach::Done, 1, 9, 7), true),
-        ("the most steps", row(0, Reach::Done, 1_000_000, 9, 7), true),
-        ("no steps", row(0, Reach::Done, 0, 9, 7), false),
-        (
-            "too many steps",
-            row(0, Reach::Done, 1_000_001, 9, 7),
-            false,
-        ),
-        ("its own parent", row(1, Reach::Done, 1, 9, 7), false),
-        ("a parent above", row(2, Reach::Done, 1, 9, 7), false),
-        ("a failed one", row(0, Reach::Failed, 1, 0, 7), true),
-        (
-            "a failed one with bytes",
-            row(0, Reach::Failed, 1, 1, 7),
-            false,
-        ),
-        (
-            "a failed one with no steps",
-            row(0, Reach::Failed, 0, 0, 7),
-            false,
-        ),
-        (
-            "a failed one with too many steps",
-            row(0, Reach::Failed, 1_000_001, 0, 7),
-            false,
-        ),
-        (
-            "unreached under 0",
-            row(0, Reach::Unreached, 0, 0, 0),
-            false,
-        ),
-        (
-            "unreached with steps",
-            row(0, Reach::Unreached, 1, 0, 0),
-            false,
-        ),
-        (
-            "unreached with bytes",
-            row(0, Reach::Unreached, 0, 1, 0),
-            false,
-        ),
-        (
-            "unreached with a text",
-            row(0, Reach::Unreached, 0, 0, 1),
-            false,
-        ),
-        ("no bytes", row(0, Reach::Done, 1, 0, 0), true),
-    ];
-    for (name, only, sound) in one {
-        assert_eq!(rt; is_sound(alloc, &[only])?, sound, "{name}");
+    assert!(rt; is_sound(alloc, &[])?, "no rows");
+    for (name, only, sound) in SINGLE {
+        assert_eq!(rt; is_sound(alloc, &[row(only)])?, sound, "{name}");
     }
-    let failed = row(0, Reach::Failed, 5, 0, 7);
-    let unreached = row(1, Reach::Unreached, 0, 0, 0);
-    let below: [(&str, Row, Row, bool); 8] = [
-        (
-            "reached below a done one",
-            done(0, 5, 9),
-            done(1, 5, 9),
-            true,
-        ),
-        (
-            "unreached below a done one",
-            done(0, 5, 9),
-            unreached,
-            false,
-        ),
-        ("unreached below a failed one", failed, unreached, true),
-        ("reached below a failed one", failed, done(1, 5, 9), false),
-        (
-            "failed below a failed one",
-            failed,
-            row(1, Reach::Failed, 5, 0, 7),
-            false,
-        ),
-        (
-            "unreached with steps below a failed one",
-            failed,
-            row(1, Reach::Unreached, 1, 0, 0),
-            false,
-        ),
-        (
-            "unreached with bytes below a failed one",
-            failed,
-            row(1, Reach::Unreached, 0, 1, 0),
-            false,
-        ),
-        (
-            "unreached with a text below a failed one",
-            failed,
-            row(1, Reach::Unreached, 0, 0, 1),
-            false,
-        ),
-    ];
-    for (name, first, second, sound) in below {
-        assert_eq!(rt; is_sound(alloc, &[first, second])?, sound, "{name}");
+    for (name, first, second, sound) in PAIRS {
+        assert_eq!(rt;
+            is_sound(alloc, &[row(first), row(second)])?,
+            sound,
+            "{name}"
+        );
     }
+    let chain = [
+        row(FAILED),
+        row((1, Reach::Unreached, 0, 0, 0)),
+        row((2, Reach::Unreached, 0, 0, 0)),
+    ];
     assert!(rt;
-        is_sound(
-            alloc,
-            &[failed, unreached, row(2, Reach::Unreached, 0, 0, 0)]
-        )?,
+        is_sound(alloc, &chain)?,
         "unreached below an unreached one"
     );
-    assert!(rt; is_sound(alloc, &[])?, "no rows");
     Ok(())
 }
 
