@@ -64,8 +64,8 @@ const KEYWORDS: [(&str, Keyword); 16] = [
 
 /// The word of a mark.
 pub fn mark_word(mark: Mark) -> &'static str {
-    for (word, found) in MARKS {
-        if found == mark {
+    for (word, found) in &MARKS {
+        if *found == mark {
             return word;
         }
     }
@@ -74,32 +74,53 @@ pub fn mark_word(mark: Mark) -> &'static str {
 
 /// The word of a keyword.
 pub fn keyword_word(keyword: Keyword) -> &'static str {
-    for (word, found) in KEYWORDS {
-        if found == keyword {
+    for (word, found) in &KEYWORDS {
+        if *found == keyword {
             return word;
         }
     }
     "no keyword"
 }
 
-/// The token of a word that is no name, number or text.
-fn fixed(word: &str) -> Option<Token> {
-    for (written, mark) in MARKS {
-        if written == word {
-            return Some(Token::Mark(mark));
+/// The mark that a word writes.
+fn mark_of(word: &str) -> Option<Mark> {
+    for (written, mark) in &MARKS {
+        if *written == word {
+            return Some(*mark);
         }
     }
-    for (written, keyword) in KEYWORDS {
-        if written == word {
-            return Some(Token::Word(keyword));
+    None
+}
+
+/// The keyword that a word writes.
+fn keyword_of(word: &str) -> Option<Keyword> {
+    for (written, keyword) in &KEYWORDS {
+        if *written == word {
+            return Some(*keyword);
         }
     }
+    None
+}
+
+/// The token of layout that a word stands for.
+fn layout_of(word: &str) -> Option<Token> {
     match word {
         "NL" => Some(Token::Newline),
         "IN" => Some(Token::Indent),
         "DE" => Some(Token::Dedent),
         "END" => Some(Token::End),
         _ => None,
+    }
+}
+
+/// The token of a word that is no name, number or text.
+fn fixed(word: &str) -> Option<Token> {
+    if let Some(mark) = mark_of(word) {
+        return Some(Token::Mark(mark));
+    }
+    match keyword_of(word) {
+        Some(keyword) => Some(Token::Word(keyword)),
+        None => layout_of(word),
     }
 }
 

@@ -7,6 +7,7 @@ use crate::tests::statement_shape::shape_of;
 use crate::tests::{answer_to, read};
 use chex_base::Text;
 use std::alloc::Global;
+use std::process::Abort;
 use std::test::Fail;
 
 /// The shape of the tree of a row.
@@ -89,11 +90,17 @@ const EXPRESSIONS: [(&str, &str); 29] = [
     ),
 ];
 
+/// The shape of an expression that stands alone on line 1, with the nodes around it.
+fn shape_alone(alloc: Global, row: &str) -> Result<Text, Fail> {
+    let row = format!(in alloc; "{row} NL END")?;
+    shape(alloc, row.as_str())
+}
+
 #[test]
 fn expressions(rt: HostRuntime) -> Result<(), Fail> {
     let alloc = rt.alloc();
-    for (row, want) in EXPRESSIONS {
-        let found = shape(alloc, format!(in alloc; "{row} NL END")?.as_str())?;
+    for (row, want) in &EXPRESSIONS {
+        let found = shape_alone(alloc, row)?;
         let want = format!(in alloc; " (Line 1:(Tests{want}))")?;
         assert_eq!(rt; found.as_str(), want.as_str(), "in {row}");
     }
@@ -163,9 +170,9 @@ const STATEMENTS: [(&str, &str); 16] = [
 #[test]
 fn statements(rt: HostRuntime) -> Result<(), Fail> {
     one_tree();
-    for (row, want) in STATEMENTS {
+    for (row, want) in &STATEMENTS {
         let found = shape(rt.alloc(), row)?;
-        assert_eq!(rt; found.as_str(), want, "in {row}");
+        assert_eq!(rt; found.as_str(), *want, "in {row}");
     }
     Ok(())
 }
@@ -186,32 +193,64 @@ fn repeated(
     Ok(out)
 }
 
-/// A long chain, a long list and deep brackets are read, each as one node or one node a bracket.
+/// A row is read as a tree that it spells, with this shape.
+fn has_shape(rt: &impl Abort, alloc: Global, row: &str, want: &str) -> Result<(), Fail> {
+    assert_eq!(rt; answer_to(alloc, row)?, Tree, "in {row}");
+    let found = shape(alloc, row)?;
+    assert_eq!(rt; found.as_str(), want, "in {row}");
+    Ok(())
+}
+
+/// A long chain is one node.
 #[test]
-fn long_and_deep(rt: HostRuntime) -> Result<(), Fail> {
+fn long_chain(rt: HostRuntime) -> Result<(), Fail> {
     let alloc = rt.alloc();
-    let deep = repeated(alloc, "", "( ", 32, "a ")?;
-    let deep_shape = repeated(alloc, " (Line 1:(Tests", " (Paren", 32, " a")?;
-    let blocks = repeated(alloc, "", "if a : NL IN ", 32, "b NL ")?;
-    for (row, want) in [
-        (
-            repeated(alloc, "a ", "+ a ", 999, "NL END")?,
-            repeated(alloc, " (Line 1:(Tests (Sum a", " Add a", 999, ")))")?,
-        ),
-        (
-            repeated(alloc, "[ ", "a , ", 3000, "] NL END")?,
-            repeated(alloc, " (Line 1:(Tests (List", " a", 3000, " ,)))")?,
-        ),
-        (
-            repeated(alloc, deep.as_str(), ") ", 32, "NL END")?,
-            repeated(alloc, deep_shape.as_str(), ")", 32, "))")?,
-        ),
-    ] {
-        assert_eq!(rt; answer_to(alloc, row.as_str())?, Tree, "in {row}");
-        let found = shape(alloc, row.as_str())?;
-        assert_eq!(rt; found.as_str(), want.as_str(), "in {row}");
-    }
-    let blocks = repeated(alloc, blocks.as_str(), "DE ", 32, "END")?;
-    assert_eq!(rt; answer_to(alloc, blocks.as_str())?, Tree, "in {blocks}");
+    let row = repeated(alloc, "a ", "+ a ", 999, "NL END")?;
+    let want = repeated(alloc, " (Line 1:(Tests (Sum a", " Add a", 999, ")))")?;
+    has_shape(&rt, alloc, row.as_str(), want.as_str())
+}
+
+/// A long list is one node.
+#[test]
+fn long_list(rt: HostRuntime) -> Result<(), Fail> {
+    let alloc = rt.alloc();
+    let row = repeated(alloc, "[ ", "a , ", 3000, "] NL END")?;
+    let want = repeated(alloc, " (Line 1:(Tests (List", " a", 3000, " ,)))")?;
+    has_shape(&rt, alloc, row.as_str(), want.as_str())
+}
+
+/// Words 32 times over, then a middle, and then other words 32 times over.
+fn around(
+    alloc: Global,
+    opening: &str,
+    middle: &str,
+    closing: &str,
+    end: &str,
+) -> Result<String, Fail> {
+    let front = repeated(alloc, "", opening, 32, middle)?;
+    repeated(alloc, front.as_str(), closing, 32, end)
+}
+
+/// The shape of `a` in 32 brackets, which stands alone on line 1.
+fn deep_shape(alloc: Global) -> Result<String, Fail> {
+    let front = repeated(alloc, " (Line 1:(Tests", " (Paren", 32, " a")?;
+    repeated(alloc, front.as_str(), ")", 32, "))")
+}
+
+/// Deep brackets are one node a bracket.
+#[test]
+fn deep_brackets(rt: HostRuntime) -> Result<(), Fail> {
+    let alloc = rt.alloc();
+    let row = around(alloc, "( ", "a ", ") ", "NL END")?;
+    let want = deep_shape(alloc)?;
+    has_shape(&rt, alloc, row.as_str(), want.as_str())
+}
+
+/// Deep blocks are read.
+#[test]
+fn deep_blocks(rt: HostRuntime) -> Result<(), Fail> {
+    let alloc = rt.alloc();
+    let row = around(alloc, "if a : NL IN ", "b NL ", "DE ", "END")?;
+    assert_eq!(rt; answer_to(alloc, row.as_str())?, Tree, "in {row}");
     Ok(())
 }
