@@ -14,8 +14,6 @@ pub mod number;
 pub mod pieces;
 pub mod reserved;
 pub mod source;
-#[cfg(test)]
-mod tests;
 
 pub use error::{LexFault, LexKind};
 pub use source::{lex, one_answer};

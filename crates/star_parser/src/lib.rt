@@ -18,6 +18,3 @@ pub mod terms;
 
 pub use fault::ParseFault;
 pub use parser::{one_tree, parse};
-
-#[cfg(test)]
-mod tests;

@@ -10,8 +10,6 @@ pub mod parameters;
 pub mod place;
 pub mod placement;
 pub mod statement;
-#[cfg(test)]
-mod tests;
 pub mod texts;
 
 pub use error::{ResolveFault, ResolveKind};

@@ -22,6 +22,3 @@ pub use spelling::{Tokens, spell};
 pub use statement::{Block, Branch, Def, Definition, Line, Module, Small, SmallKind, Statement};
 pub use token::{Keyword, Mark, Spanned, Token};
 pub use tokens::SpannedTokens;
-
-#[cfg(test)]
-mod tests;

@@ -27,6 +27,3 @@ pub use range::Range;
 pub use stop::Stop;
 pub use value::{Value, Values, copy_values, greatest_depth, sum_of_weights};
 pub use white::{split_white, strip};
-
-#[cfg(test)]
-mod tests;

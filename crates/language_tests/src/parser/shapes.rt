@@ -1,11 +1,11 @@
 //! Which nodes the trees of tokens have.
 
-use crate::one_tree;
-use crate::tests::Answer::Tree;
-use crate::tests::notation::tokens_of;
-use crate::tests::statement_shape::shape_of;
-use crate::tests::{answer_to, read};
+use crate::parser::Answer::Tree;
+use crate::parser::notation::tokens_of;
+use crate::parser::statement_shape::shape_of;
+use crate::parser::{answer_to, read};
 use chex_base::Text;
+use star_parser::one_tree;
 use std::alloc::Global;
 use std::process::Abort;
 use std::test::Fail;

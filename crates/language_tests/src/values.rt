@@ -1,11 +1,11 @@
 //! Texts, formats and values whose answers were worked out by hand.
 
-use crate::{
+use chex_base::{NoMemory, ObjectId, Text};
+use sqlite_items::Items;
+use star_value::{
     Builtin, Failure, Key, Meter, Part, Range, Stop, Texts, Value, ends_with, find, format_parts,
     join, replace, split, split_white, starts_with, strip,
 };
-use chex_base::{NoMemory, ObjectId, Text};
-use sqlite_items::Items;
 use std::alloc::Global;
 use std::process::Abort;
 use std::test::Fail;

@@ -1,6 +1,6 @@
 use Rattle.std.proofs.Common.{subst}
 use Rattle.star_syntax.proofs.PlacementLemmas.{placed-nothing, names-nothing}
-use Rattle.star_syntax.proofs.tests.cells_hold_their_parts.Goals as goal
+use Rattle.language_tests.proofs.trees.cells_hold_their_parts.Goals as goal
 
 pub new-requires-3-clause-placed : goal.new-requires-3-clause-placed
 new-requires-3-clause-placed g c = rw c.new.ensures placed-nothing

@@ -8,7 +8,7 @@ mod statement_shape;
 mod statements;
 
 use self::notation::{row_of, tokens_of};
-use crate::{ParseFault, parse};
+use star_parser::{ParseFault, parse};
 use star_syntax::{Module, Spanned, Token, spell};
 use std::alloc::Global;
 use std::process::Abort;

@@ -1,7 +1,7 @@
 //! Rows of statements.
 
-use crate::tests::Answer::{At, Tree};
-use crate::tests::{Answer, check_rows};
+use crate::parser::Answer::{At, Tree};
+use crate::parser::{Answer, check_rows};
 use std::test::Fail;
 
 /// A row has a tree, or the least place with which no tree goes on: no cell begins with the tokens up to it,

@@ -1,6 +1,6 @@
 //! The shapes of statements, each with its line in front.
 
-use crate::tests::expression_shape::{close, comma_if, expr, exprs, named, open, word};
+use crate::parser::expression_shape::{close, comma_if, expr, exprs, named, open, word};
 use chex_base::{NoMemory, Text};
 use star_syntax::{Block, Branch, Def, Line, Module, Small, SmallKind, Statement};
 use std::alloc::Global;

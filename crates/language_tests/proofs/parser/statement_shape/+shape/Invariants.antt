@@ -1,5 +1,5 @@
 use Rattle.std.proofs.Common.{◌+◌, ◌*◌}
-use Rattle.star_parser.proofs.tests.statement_shape.+shape.Given as goal
+use Rattle.language_tests.proofs.parser.statement_shape.+shape.Given as goal
 
 -- each function goes down the tree, or stays and calls one of a lower number
 

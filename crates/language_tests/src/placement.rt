@@ -1,8 +1,8 @@
 //! Trees made by hand, with the names that their cells read or their first breach.
 
-use crate::{ResolveFault, ResolveKind, resolve};
 use chex_base::{NoMemory, Text};
 use sqlite_items::{Boxed, Items};
+use star_resolver::{ResolveFault, ResolveKind, resolve};
 use star_syntax::{
     Arguments, Block, Branch, Clause, Def, Expr, Line, Module, Named, Small, SmallKind, Statement,
     Suffix,

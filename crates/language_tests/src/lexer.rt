@@ -1,6 +1,5 @@
 //! Rows of the language, with their tokens or their first fault.
-use crate::error::{LexFault, LexKind};
-use crate::source::lex;
+use star_lexer::{LexFault, LexKind, lex};
 use star_syntax::Token;
 use std::alloc::Global;
 use std::test::Fail;

@@ -1,12 +1,12 @@
 //! Trees made by hand, and the tokens that the grammar gives them.
 
-use crate::{
+use chex_base::{NoMemory, NodeId, Text};
+use sqlite_items::{Boxed, Items};
+use star_syntax::{
     Arguments, BinaryOp, Block, Branch, Cell, Cells, ChainLevel, ChainOp, Clause, CompareOp,
     Definition, Expr, Keyword, Line, Link, Mark, Module, Named, Names, Pair, Program, Small,
     SmallKind, Statement, Suffix, Token, UnaryOp, spell,
 };
-use chex_base::{NoMemory, NodeId, Text};
-use sqlite_items::{Boxed, Items};
 use std::alloc::Global;
 use std::test::Fail;
 
