@@ -1,4 +1,3 @@
-use Rattle.std.proofs.Common.{subst}
 use Rattle.star_syntax.proofs.PlacementLemmas.{placed-nothing, names-nothing}
 use Rattle.language_tests.proofs.trees.cells_hold_their_parts.Goals as goal
 

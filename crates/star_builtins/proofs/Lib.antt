@@ -1,0 +1,23 @@
+pub mod IntegerLemmas
+pub mod FitLemmas
+pub mod ChargeLemmas
+pub mod PlaceLemmas
+pub mod IndexLemmas
+pub mod FollowLemmas
+pub mod TakenLemmas
+pub mod SliceLemmas
+pub mod ListLemmas
+pub mod QuotientLemmas
+pub mod PartLemmas
+pub mod OperandLemmas
+mod Written
+mod Words
+mod Held
+mod Quoted
+pub mod FilledLemmas
+pub mod WeighedLemmas
+mod Charged
+mod Outs
+mod Weighed
+mod Ordered
+mod Samples

@@ -1,0 +1,15 @@
+use Rattle.std.proofs.Common.{◌≡◌}
+use Rattle.std.specs.List.{filter_map}
+use Rattle.star_meaning.specs.Operators.{at_int}
+use Rattle.star_meaning.specs.Values.{integers_of}
+use Rattle.star_value.specs.Charge.{charged}
+use Rattle.star_value.specs.Ranges.{range_count}
+use Rattle.star_value.specs.Weight.{sum_of_weights}
+use Rattle.star_builtins.specs.Taken.{taken_from}
+use Rattle.star_builtins.proofs.slicing.charge_values_at.Given as goal
+
+abbrev pub invariant-loop-place : goal.invariant-loop-place
+invariant-loop-place l = record {
+  count : l.place-end ≡ range_count l.range;
+  all : charged l.meter.left (sum_of_weights (taken_from l.items l.range l.place l.place-end)) ≡ charged l.fn.meter.left (sum_of_weights (filter_map (at_int l.items) (integers_of l.range)));
+}

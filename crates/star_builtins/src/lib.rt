@@ -1,0 +1,37 @@
+//! What operators, built-in functions and methods do: each call is one definition of
+//! `star_meaning` over the state of a machine and the steps that a meter has left, without the
+//! first charge of 1 and the charge of the result's weight, which its caller makes.
+#![tactic(auto)]
+
+mod adding;
+mod arithmetic;
+pub mod bounds;
+mod charges;
+pub mod comparing;
+mod formatting;
+pub mod indexing;
+mod integers;
+mod lists;
+mod membership;
+pub mod operators;
+mod order;
+mod parts;
+mod pieces;
+mod places;
+mod plain;
+mod repeating;
+pub mod showing;
+pub mod signs;
+pub mod slicing;
+mod weighing;
+
+pub use bounds::Bounds;
+pub use comparing::compare;
+pub use indexing::index;
+pub use operators::binary;
+pub use showing::show;
+pub use signs::unary;
+pub use slicing::slice;
+
+#[cfg(test)]
+mod tests;

@@ -1,0 +1,4 @@
+//! Answers that were worked out by hand.
+
+mod operators;
+mod showing;
