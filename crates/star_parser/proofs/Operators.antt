@@ -20,7 +20,7 @@ use Rattle.star_parser.specs.declared.level.Level.{Level}
 use Rattle.star_parser.specs.declared.level.Level.TheVariants as level
 use Rattle.star_parser.specs.Reading.{Input, Reader, ◌>>=◌, ◌>>◌, pure, next, skip, kinds}
 use Rattle.star_parser.specs.Tables.{compare_op, expect_word, eat_word}
-use Rattle.star_parser.specs.Readers.{compared, compare_by, compare, conditional, test}
+use Rattle.star_parser.specs.Readers.{compared, compare_by, compare, conditional, whole_test}
 use Rattle.star_parser.specs.Ends.{reach, Ends}
 use Rattle.star_parser.proofs.Exact.{Exact, Then, Just, exact_then, exact_by, exact_same, exact_pure}
 use Rattle.star_parser.proofs.Steps.{Tok, exact_skip, some_token, exact_token_then, exact_last, exact_expect_word, exact_eat_word}
@@ -381,8 +381,8 @@ module _ (expr : Level → Reader Expr) (bound : ℕ) (ors : ReadsBelow expr bou
       (λ other left3 taken3 split3 _. exact_pure (e.Conditional value condition other) (Ends 0) left3)))
 
   -- conditionals are read exactly, if their parts are
-  pub test_exact : (ts : Input) → length ts ≤ bound → Exact (IsExpr 0) (Ends 0) ts (test expr ts)
-  unfolding test Ends
+  pub test_exact : (ts : Input) → length ts ≤ bound → Exact (IsExpr 0) (Ends 0) ts (whole_test expr ts)
+  unfolding whole_test Ends
   test_exact ts few = exact_same (Then (IsExpr 1) TestTail) (IsExpr 0) (Ends 0) test_there test_back ts _
       (exact_then (IsExpr 1) TestTail (Ends 1) (Ends 0)
       (λ value x c1 c2 more _ tail ends. elim tail [

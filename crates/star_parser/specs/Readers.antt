@@ -376,14 +376,15 @@ module _ (expr : Level → Reader Expr) where
     other ← expr level.Test
     pure (e.Conditional value condition other)
 
-  unfoldable pub test : Reader Expr
-  test = do
+  -- a test: a conditional, or its value alone
+  unfoldable pub whole_test : Reader Expr
+  whole_test = do
     value ← expr level.Or
     is_conditional ← eat_word w.If
     if is_conditional then conditional value else pure value
 
   abbrev pub at : Level → Reader Expr
-  at level.Test = test
+  at level.Test = whole_test
   at level.Or = chained chain.Or level.And
   at level.And = chained chain.And level.Not
   at level.Not = negated

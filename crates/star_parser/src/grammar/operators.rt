@@ -133,10 +133,10 @@ impl<F: Fn(Global, &mut Cursor<'_>, usize, Level) -> Result<Expr, Fault>> Gramma
     }
 
     /// A conditional, or its value alone.
-    #[tactic(auto, unfolding(crate::specs::Readers::test))]
+    #[tactic(auto, unfolding(crate::specs::Readers::whole_test))]
     pub fn test(&self, tokens: &mut Cursor<'_>) -> Result<Expr, Fault>
         requires { Nests self.now.depth (F.pre self.now.expr) (F.post self.now.expr) }
-        ensures { Reads (spec.test (spec.expr self.now.depth) tokens.old.rest.now) result tokens.new.rest.now }
+        ensures { Reads (spec.whole_test (spec.expr self.now.depth) tokens.old.rest.now) result tokens.new.rest.now }
     {
         let value = self.expr(tokens, Level::Or)?;
         if tokens.eat_word(Keyword::If) {
