@@ -12,6 +12,7 @@ ghost use Rattle.star_value.specs.declared.value.Value.{out-Value};
 use crate::integers;
 use star_value::{Failure, Stop, Value};
 
+/// `left - right`.
 pub fn subtract(left: &Value, right: &Value) -> Result<Value, Stop>
     ensures gives { (s : Store ℕ) → Gives (on_ints (λ a b. integer (a -ℤ b)) (out-Value left.now) (out-Value right.now) s) result s }
     ensures fits { (m : MachineState) → IfOk result (λ v. Fits m v) }
@@ -24,6 +25,7 @@ pub fn subtract(left: &Value, right: &Value) -> Result<Value, Stop>
     }
 }
 
+/// `left // right`, rounded down; ZeroDivisor where the right one is 0.
 pub fn floor(left: &Value, right: &Value) -> Result<Value, Stop>
     ensures gives { (s : Store ℕ) → Gives (on_ints (divided floor_of) (out-Value left.now) (out-Value right.now) s) result s }
     ensures fits { (m : MachineState) → IfOk result (λ v. Fits m v) }
@@ -34,6 +36,7 @@ pub fn floor(left: &Value, right: &Value) -> Result<Value, Stop>
     }
 }
 
+/// `left % right` on integers, with the sign of the right one; ZeroDivisor where that is 0.
 pub fn modulo(left: &Value, right: &Value) -> Result<Value, Stop>
     ensures gives { (s : Store ℕ) → Gives (on_ints (divided rest_of) (out-Value left.now) (out-Value right.now) s) result s }
     ensures fits { (m : MachineState) → IfOk result (λ v. Fits m v) }
@@ -44,6 +47,7 @@ pub fn modulo(left: &Value, right: &Value) -> Result<Value, Stop>
     }
 }
 
+/// `left & right`.
 pub fn and(left: &Value, right: &Value) -> Result<Value, Stop>
     ensures gives { (s : Store ℕ) → Gives (on_ints (λ a b. integer (int_bit_and w128 a b)) (out-Value left.now) (out-Value right.now) s) result s }
     ensures fits { (m : MachineState) → IfOk result (λ v. Fits m v) }
@@ -56,6 +60,7 @@ pub fn and(left: &Value, right: &Value) -> Result<Value, Stop>
     }
 }
 
+/// `left | right`.
 pub fn or(left: &Value, right: &Value) -> Result<Value, Stop>
     ensures gives { (s : Store ℕ) → Gives (on_ints (λ a b. integer (int_bit_or w128 a b)) (out-Value left.now) (out-Value right.now) s) result s }
     ensures fits { (m : MachineState) → IfOk result (λ v. Fits m v) }
@@ -68,6 +73,7 @@ pub fn or(left: &Value, right: &Value) -> Result<Value, Stop>
     }
 }
 
+/// `left ^ right`.
 pub fn xor(left: &Value, right: &Value) -> Result<Value, Stop>
     ensures gives { (s : Store ℕ) → Gives (on_ints (λ a b. integer (int_bit_xor w128 a b)) (out-Value left.now) (out-Value right.now) s) result s }
     ensures fits { (m : MachineState) → IfOk result (λ v. Fits m v) }

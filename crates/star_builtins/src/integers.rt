@@ -12,6 +12,7 @@ ghost use Rattle.star_value.specs.declared.value.Value.TheVariants as value;
 
 use star_value::{Failure, Stop, Value};
 
+/// The sum of two integers.
 #[tactic(auto, using(crate::proofs::IntegerLemmas::in_range_if))]
 pub fn sum(left: i128, right: i128) -> Option<i128>
     ensures { result ≡ in_range (left +ℤ right) }
@@ -19,6 +20,7 @@ pub fn sum(left: i128, right: i128) -> Option<i128>
     left.checked_add(right)
 }
 
+/// The first integer less the second.
 #[tactic(auto, using(crate::proofs::IntegerLemmas::in_range_if))]
 pub fn difference(left: i128, right: i128) -> Option<i128>
     ensures { result ≡ in_range (left -ℤ right) }
@@ -26,6 +28,7 @@ pub fn difference(left: i128, right: i128) -> Option<i128>
     left.checked_sub(right)
 }
 
+/// The product of two integers.
 #[tactic(auto, using(crate::proofs::IntegerLemmas::in_range_if))]
 pub fn product(left: i128, right: i128) -> Option<i128>
     ensures { result ≡ in_range (left *ℤ right) }
@@ -33,6 +36,7 @@ pub fn product(left: i128, right: i128) -> Option<i128>
     left.checked_mul(right)
 }
 
+/// The integer with its sign changed.
 #[tactic(auto, using(crate::proofs::IntegerLemmas::in_range_if))]
 pub fn negated(number: i128) -> Option<i128>
     ensures { result ≡ in_range (neg_ℤ number) }
@@ -40,6 +44,7 @@ pub fn negated(number: i128) -> Option<i128>
     number.checked_neg()
 }
 
+/// The integer itself, which always fits.
 #[tactic(auto, using(crate::proofs::IntegerLemmas::in_range_fits))]
 pub fn same(number: i128) -> Option<i128>
     ensures { result ≡ in_range number }
@@ -47,24 +52,28 @@ pub fn same(number: i128) -> Option<i128>
     Some(number)
 }
 
+/// The integer with all bits turned.
 pub fn inverted(number: i128) -> Option<i128>
     ensures { result ≡ in_range (int_bit_not w128 number) }
 {
     same(!number)
 }
 
+/// The bits that both integers have, in two's complement.
 pub fn bits_of_both(left: i128, right: i128) -> Option<i128>
     ensures { result ≡ in_range (int_bit_and w128 left right) }
 {
     same(left & right)
 }
 
+/// The bits that one of the integers has, in two's complement.
 pub fn bits_of_either(left: i128, right: i128) -> Option<i128>
     ensures { result ≡ in_range (int_bit_or w128 left right) }
 {
     same(left | right)
 }
 
+/// The bits that just one of the integers has, in two's complement.
 pub fn bits_of_one(left: i128, right: i128) -> Option<i128>
     ensures { result ≡ in_range (int_bit_xor w128 left right) }
 {
@@ -95,6 +104,7 @@ pub fn as_result(answer: Option<i128>) -> Result<Value, Stop>
     }
 }
 
+/// Whether an integer is 0.
 pub fn is_zero(number: i128) -> bool
     ensures { result ≡ values.is_zero number }
 {
