@@ -609,11 +609,11 @@ fn repeated(alloc: Global, piece: &str, times: u32, between: &str) -> Result<Str
 
 /// A call over a file `f`, manifests `v` and `w` that name it, and the inputs `i` of `w`, ends as
 /// it must.
-fn limited(
+fn limited<'x>(
     rt: &impl Abort,
     alloc: Global,
     line: &str,
-    (bytes, names): (&str, &str),
+    (bytes, names): (&'x str, &'x str),
     wanted: Wanted,
 ) -> Result<(), Fail> {
     let files = [
