@@ -38,7 +38,7 @@ pub one_more-copied : (copied more whole : List (List ℕ × Input)) (name : Lis
 one_more-copied copied more whole name value rising is =
     let sorted : IsStrictlySortedBy text_cmp (keys_of copied ++ name ∷ keys_of more)
     = subst (IsStrictlySortedBy text_cmp) (ap keys_of (sym is) ∙ keys_of-append copied ((name, value) ∷ more)) rising in
-    ap (λ front. front ++ more) (with_value-last copied name value (keys_of more) sorted)
+    ap (λ prefix. prefix ++ more) (with_value-last copied name value (keys_of more) sorted)
     ∙ append_assoc copied ((name, value) ∷ []) more ∙ is
 
 -- another name has another place

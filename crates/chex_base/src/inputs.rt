@@ -9,7 +9,8 @@ use std::collections::BTreeMap;
 use std::marker::Model;
 
 /// A finite map from names to values. Contracts see the list of its pairs in rising byte order of
-/// the names, so maps are equal where they give the same names the same values.
+/// the names, each name once, so maps are equal where they give the same names the same values. That
+/// the names rise is kept by the type.
 #[derive(Drop)]
 pub struct Inputs {
     values: BTreeMap<Text, Input>,
@@ -22,6 +23,10 @@ impl Model for Inputs {
     ghost Value = { List (List ℕ × Input) };
 
     ghost view = { λ inputs. inputs.values.entries };
+
+    ghost use Rattle.chex_base.specs.Inputs.{IsRising};
+
+    ghost invariant = { λ inputs. IsRising inputs.values.entries };
 }
 
 impl Inputs {
@@ -36,7 +41,8 @@ impl Inputs {
 
     /// The value of a name, if the map has one. It takes no memory.
     pub fn get(&self, name: &Text) -> Option<&Input>
-        ensures { option_copied result ≡ value_of self.now name.now }
+        ensures value { option_copied result ≡ value_of self.now name.now }
+        ensures rising { IsRising self.now }
     {
         self.values.get(name)
     }
@@ -56,50 +62,13 @@ impl Inputs {
 
     /// An equal map.
     pub fn copy(&self, alloc: Global) -> Result<Inputs, NoMemory>
-        ensures { IfOk result (λ copy. copy ≡ self.now) }
+        ensures equal { IfOk result (λ copy. copy ≡ self.now) }
+        ensures rising { IsRising self.now }
     {
         let mut copy = Inputs::new(alloc);
         for (name, value) in self.values.iter() {
             copy.set(name.copy(alloc)?, value.copy(alloc)?)?;
         }
         Ok(copy)
-    }
-}
-
-#[cfg(test)]
-mod tests {
-    use super::*;
-    use crate::{InputItem, InputList};
-    use std::test::Fail;
-
-    #[test]
-    fn a_copied_map_has_what_was_set_last(rt: HostRuntime) -> Result<(), Fail> {
-        let alloc = rt.alloc();
-        let mut items = InputList::new(alloc);
-        items.add(InputItem::None)?;
-        items.add(InputItem::Bool(true))?;
-        items.add(InputItem::Int(-7))?;
-        items.add(InputItem::Text(Text::from_str(alloc, "x")?))?;
-        let mut inputs = Inputs::new(alloc);
-        inputs.set(Text::from_str(alloc, "list")?, Input::List(items))?;
-        for (name, value) in [("b", 1), ("a", 2), ("é", 3), ("a", 4)] {
-            inputs.set(Text::from_str(alloc, name)?, Input::Int(value))?;
-        }
-        let copy = inputs.copy(alloc)?;
-        for (name, want) in [
-            ("a", "Some(Int(4))"),
-            ("b", "Some(Int(1))"),
-            ("é", "Some(Int(3))"),
-            ("c", "None"),
-            (
-                "list",
-                r#"Some(List(InputList { items: [None, Bool(true), Int(-7), Text("x")] }))"#,
-            ),
-        ] {
-            let name = Text::from_str(alloc, name)?;
-            let found = format!(in alloc; "{:?}", copy.get(&name))?;
-            assert_eq!(rt; found.as_str(), want);
-        }
-        Ok(())
     }
 }

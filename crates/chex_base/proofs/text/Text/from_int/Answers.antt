@@ -8,6 +8,6 @@ use Rattle.chex_base.proofs.text.Text.from_int.Goals as goal
 
 pub returns : goal.returns
 returns c =
-    ap chars c.in_ok-digits.ensures
+    ap chars c.in_ok-bytes.ensures
     ∙ (ap (λ z. chars (signed_decimal z)) (to_z-of_z c.ranges.number)
     ∙ chars-IsAscii _ (ascii_number c.args.number c.ranges.number))

@@ -1,5 +1,6 @@
-use Rattle.std.proofs.Common.{ap, ◌∙◌, ◌++◌}
+use Rattle.std.proofs.Common.{ap, sym, ◌∙◌, ◌++◌, length}
 use Rattle.std.specs.Str.{chars}
+use Rattle.chex_base.proofs.TextLemmas.{counted-joined}
 use Rattle.std.proofs.lemmas.Str.{chars-append, IsUtf8-string_bytes}
 use Rattle.chex_base.proofs.text.Text.push_text.Goals as goal
 
@@ -9,3 +10,8 @@ returns-clause-ok c =
     ∙ (chars-append _ c.as_str.result.now (IsUtf8-string_bytes c.self.inside.bytes)
     ∙ (ap (λ t. t ++ chars c.as_str.result.now) c.self.view_is
     ∙ ap (λ t. c.args.self.now ++ t) (ap chars c.as_str.ensures.value ∙ c.more.view_is)))
+
+pub invariant_of-self-2 : goal.invariant_of-self-2
+invariant_of-self-2 c =
+    counted-joined _ c.as_str.result.now _ _ _ _ (IsUtf8-string_bytes c.self.inside.bytes) (IsUtf8-string_bytes c.push_str.new.self) c.in_ok-push_str.ensures.bytes
+    c.self.invariant.0 (c.more.invariant.0 ∙ ap (λ t. length (chars t)) (sym c.as_str.ensures.value)) c.size-size.ensures.len c.size-size.ensures.small
