@@ -1,8 +1,9 @@
 -- What a well-levelled node holds, and how one is made.
-use Rattle.std.proofs.Common.{◌≡◌, ◌∙◌, ℕ, ◌≤◌, ◌<◌, Bool, false, List, [], ◌∷◌, map, Option, Some, None, refl, sym, ap, subst, arith}
+use Rattle.std.proofs.Common.{◌≡◌, ◌∙◌, Bool, false, List, [], ◌∷◌, map, Option, Some, None, refl, ap, subst}
 use Rattle.std.specs.List.{AllByRecursion}
 use Rattle.star_syntax.specs.declared.expression.ChainLevel.{ChainLevel}
 use Rattle.star_syntax.specs.declared.expression.Link.{Link}
+use Rattle.star_syntax.specs.declared.expression.Arm.{Arm}
 use Rattle.star_syntax.specs.declared.expression.Named.{Named}
 use Rattle.star_syntax.specs.declared.expression.Pair.{Pair}
 use Rattle.star_syntax.specs.declared.expression.Arguments.{Arguments}
@@ -41,6 +42,9 @@ EachPair P pair = P pair.key × P pair.value
 abbrev pub EachLink : (Expr → Type 0) → Link Expr → Type 0
 EachLink P link = P link.operand
 
+abbrev pub EachArm : (Expr → Type 0) → Arm Expr → Type 0
+EachArm P arm = P arm.value × P arm.condition
+
 -- P holds of each part of a node
 abbrev pub Each : (Expr → Type 0) → Expr-F Expr → Type 0
 Each P (Expr-F.Name _) = Unit {0}
@@ -60,7 +64,7 @@ Each P (Expr-F.Signed signs operand) = P operand
 Each P (Expr-F.Chain l first links) = P first × AllByRecursion (EachLink P) links
 Each P (Expr-F.Compare left o right) = P left × P right
 Each P (Expr-F.Not count operand) = P operand
-Each P (Expr-F.Conditional value condition other) = P value × P condition × P other
+Each P (Expr-F.Conditional arms last) = AllByRecursion (EachArm P) arms × P last
 
 suffixes_in : {X : Type 0} → Expr-F X → List (Suffix X)
 suffixes_in (Expr-F.Primary head xs) = xs
@@ -69,6 +73,10 @@ suffixes_in _ = []
 links_in : {X : Type 0} → Expr-F X → List (Link X)
 links_in (Expr-F.Chain l first xs) = xs
 links_in _ = []
+
+arms_in : {X : Type 0} → Expr-F X → List (Arm X)
+arms_in (Expr-F.Conditional xs last) = xs
+arms_in _ = []
 
 clauses_in : {X : Type 0} → Expr-F X → List (Clause X)
 clauses_in (Expr-F.ListOver item xs) = xs
@@ -142,8 +150,13 @@ module _ (P : Expr → Type 0) where
   links_held l first [] = tt
   links_held l first (x ∷ xs) = (x.operand.1, links_held l first xs)
 
+  arms_held : (last : Held) (xs : List (Arm Held)) → AllByRecursion (EachArm P) (arms_in (bare (Expr-F.Conditional xs last)))
+  unfolding bare arms_in
+  arms_held last [] = tt
+  arms_held last (x ∷ xs) = ((x.value.1, x.condition.1), arms_held last xs)
+
   held : (y : Expr-F Held) → Each P (bare y)
-  unfolding bare suffixes_in links_in clauses_in pairs_in clauses_bare
+  unfolding bare suffixes_in links_in arms_in clauses_in pairs_in clauses_bare
   held (Expr-F.Name _) = tt
   held (Expr-F.Int _) = tt
   held (Expr-F.Text _) = tt
@@ -161,7 +174,7 @@ module _ (P : Expr → Type 0) where
   held (Expr-F.Chain l first links) = (first.1, links_held l first links)
   held (Expr-F.Compare left o right) = (left.1, right.1)
   held (Expr-F.Not count operand) = operand.1
-  held (Expr-F.Conditional value condition other) = (value.1, condition.1, other.1)
+  held (Expr-F.Conditional arms last) = (arms_held last arms, last.1)
 
   -- ---- how it is made
 
@@ -270,6 +283,14 @@ module _ (P : Expr → Type 0) where
       let (ys, is) = links_made l first xs h.1 in
       (record { op = x.op; operand = (x.operand, h.0) } ∷ ys, ap (λ d. Expr-F.Chain l first.0 (x ∷ links_in d)) is)
 
+  arms_made : (last : Held) (xs : List (Arm Expr)) → AllByRecursion (EachArm P) xs
+      → (ys : List (Arm Held)) × (bare (Expr-F.Conditional ys last) ≡ Expr-F.Conditional xs last.0)
+  unfolding bare arms_in
+  arms_made last [] h = ([], refl)
+  arms_made last (x ∷ xs) h =
+      let (ys, is) = arms_made last xs h.1 in
+      (record { value = (x.value, h.0.0); condition = (x.condition, h.0.1) } ∷ ys, ap (λ d. Expr-F.Conditional (x ∷ arms_in d) last.0) is)
+
   made : (d : Expr-F Expr) → Each P d → (y : Expr-F Held) × (bare y ≡ d)
   unfolding bare clauses_bare clauses_in
   made (Expr-F.Name n) h = (Expr-F.Name n, refl)
@@ -291,7 +312,7 @@ module _ (P : Expr → Type 0) where
   made (Expr-F.Chain l first links) h = let (ys, is) = links_made l (first, h.0) links h.1 in (Expr-F.Chain l (first, h.0) ys, is)
   made (Expr-F.Compare left o right) h = (Expr-F.Compare (left, h.0) o (right, h.1), refl)
   made (Expr-F.Not count operand) h = (Expr-F.Not count (operand, h), refl)
-  made (Expr-F.Conditional value condition other) h = (Expr-F.Conditional (value, h.0) (condition, h.1) (other, h.2), refl)
+  made (Expr-F.Conditional arms last) h = let (ys, is) = arms_made (last, h.1) arms h.0 in (Expr-F.Conditional ys (last, h.1), is)
 
 -- induction over a tree, where each part of a node has the property
 pub induct : (P : Expr → Type 0) → ((d : Expr-F Expr) → Each P d → P (roll-Expr d)) → (x : Expr) → P x

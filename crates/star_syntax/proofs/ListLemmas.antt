@@ -1,9 +1,8 @@
 -- Phrases with marks between, one more phrase at a time.
-use Rattle.std.proofs.Common.{append_assoc, ◌+◌, ◌-◌, ◌≤◌, ◌<◌, ◌≡◌, ◌∙◌, ℕ, zero, suc, Bool, List, [], ◌∷◌, ◌++◌, map, max, refl, sym, ap, subst, arith, length, take, get_or, add-one}
+use Rattle.std.proofs.Common.{append_assoc, ◌+◌, ◌-◌, ◌<◌, ◌≡◌, ◌∙◌, ℕ, zero, suc, List, [], ◌∷◌, ◌++◌, map, max, refl, sym, ap, arith, length, take, get_or, add-one}
 use Rattle.std.specs.List.{flat_map}
 use Rattle.std.proofs.lemmas.List.{append-nil, length-map, length-take-le, map-append}
 use Rattle.std.proofs.Math.Seq.{take-suc}
-use Rattle.star_syntax.specs.declared.token.Token.{Token}
 use Rattle.star_syntax.specs.declared.token.Token.TheVariants as t
 use Rattle.star_syntax.specs.declared.token.Mark.{Mark}
 use Rattle.star_syntax.specs.declared.token.Mark.TheVariants as m

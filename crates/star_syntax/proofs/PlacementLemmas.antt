@@ -1,8 +1,7 @@
 -- What follows from the rules of placement.
-use Rattle.std.proofs.Common.{◌≡◌, ℕ, List, [], refl, subst, sym}
+use Rattle.std.proofs.Common.{[], refl}
 use Rattle.std.specs.List.Sorted.{IsStrictlySortedBy}
 use Rattle.star_syntax.specs.Placement.{IsPlaced, AreInputNames, sights, breaches, names_read}
-use Rattle.star_syntax.specs.declared.statement.Module.{Module}
 
 -- a cell without statements breaks no rule
 pub placed-nothing : IsPlaced (record { statements = [] })

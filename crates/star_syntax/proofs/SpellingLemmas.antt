@@ -2,7 +2,6 @@
 use Rattle.std.proofs.Common.{append_assoc, ◌-◌, get_or, drop, ◌≤◌, ◌≡◌, ◌∙◌, ℕ, Bool, List, [], ◌∷◌, ◌++◌, map, replicate, Option, Some, None, refl, sym, ap, arith, rules, length, take}
 use Rattle.std.specs.List.{flat_map}
 use Rattle.std.proofs.lemmas.List.{length-map}
-use Rattle.std.proofs.lemmas.List.Folds.{flat_map-map}
 use Rattle.star_syntax.specs.declared.token.Token.{Token}
 use Rattle.star_syntax.specs.declared.token.Token.TheVariants as t
 use Rattle.star_syntax.specs.declared.token.Keyword.TheVariants as w
@@ -11,6 +10,7 @@ use Rattle.star_syntax.specs.declared.operator.CompareOp.{CompareOp}
 use Rattle.star_syntax.specs.declared.operator.UnaryOp.{UnaryOp}
 use Rattle.star_syntax.specs.declared.expression.ChainLevel.{ChainLevel}
 use Rattle.star_syntax.specs.declared.expression.Link.{Link}
+use Rattle.star_syntax.specs.declared.expression.Arm.{Arm}
 use Rattle.star_syntax.specs.declared.expression.Named.{Named}
 use Rattle.star_syntax.specs.declared.expression.Pair.{Pair}
 use Rattle.star_syntax.specs.declared.expression.Arguments.{Arguments}
@@ -18,11 +18,11 @@ use Rattle.star_syntax.specs.declared.expression.Suffix.{Suffix}
 use Rattle.star_syntax.specs.declared.expression.Suffix.TheVariants.{Index, Slice, Call, Method}
 use Rattle.star_syntax.specs.declared.expression.Clause.{Clause}
 use Rattle.star_syntax.specs.declared.expression.Clause.TheVariants.{For, If}
-use Rattle.star_syntax.specs.declared.expression.Expr.{Expr, out-Expr, roll-Expr, map-Expr, fold-Expr, fold-roll-Expr, fold_out-Expr}
+use Rattle.star_syntax.specs.declared.expression.Expr.{Expr, roll-Expr, map-Expr, fold-roll-Expr}
 use Rattle.star_syntax.specs.declared.expression.Expr.TheOpen.{Expr-F}
 use Rattle.star_syntax.specs.declared.expression.Expr.TheVariants as e
-use Rattle.star_syntax.specs.Spelling.{Tokens, expr_spelling, layer_spelling, tests_spelling, suffix_spelling, clause_spelling, pair_spelling, named_spelling, arguments_spelling, link_spelling, default_spelling, listed, sign_token, chain_token, compare_tokens, if_written, optional, step_spelling}
-use Rattle.star_syntax.specs.SpellingOfParts.{expr_suffix_spelling, expr_clause_spelling, expr_pair_spelling, expr_link_spelling, expr_arguments_spelling, optional_spelling, expr_step_spelling, listed_arguments, listed_after, parts_spelling}
+use Rattle.star_syntax.specs.Spelling.{Tokens, expr_spelling, layer_spelling, tests_spelling, suffix_spelling, clause_spelling, pair_spelling, named_spelling, link_spelling, arm_spelling, default_spelling, listed, compare_tokens, if_written}
+use Rattle.star_syntax.specs.SpellingOfParts.{expr_suffix_spelling, expr_clause_spelling, expr_pair_spelling, expr_link_spelling, expr_arm_spelling, expr_arguments_spelling, listed_arguments, listed_after, parts_spelling}
 use Rattle.star_syntax.proofs.ListLemmas.{listed_parts}
 
 -- ---- one layer, over the spellings of whole parts
@@ -38,6 +38,10 @@ suffixes_in _ = []
 links_in : {X : Type 0} → Expr-F X → List (Link X)
 links_in (Expr-F.Chain level first xs) = xs
 links_in _ = []
+
+arms_in : {X : Type 0} → Expr-F X → List (Arm X)
+arms_in (Expr-F.Conditional xs last) = xs
+arms_in _ = []
 
 clauses_in : {X : Type 0} → Expr-F X → List (Clause X)
 clauses_in (Expr-F.ListOver item xs) = xs
@@ -124,11 +128,18 @@ unfolding links_in
 links_again level first [] = refl
 links_again level first (x ∷ xs) = ap (λ r. expr_link_spelling x ++ r) (links_again level first xs)
 
+arms_again : (last : Expr) (xs : List (Arm Expr)) →
+    flat_map arm_spelling (arms_in (map-Expr Expr Tokens expr_spelling (Expr-F.Conditional xs last))) ≡ flat_map expr_arm_spelling xs
+unfolding arms_in
+arms_again last [] = refl
+arms_again last (x ∷ xs) =
+    joined _ _ _ _ (append_assoc (expr_spelling x.value) (t.Word w.If ∷ expr_spelling x.condition) (t.Word w.Else ∷ [])) (arms_again last xs)
+
 -- ---- the node
 
 -- what a node spells, over its parts
 pub spells_parts : (d : Expr-F Expr) → expr_spelling (roll-Expr d) ≡ parts_spelling d
-unfolding suffixes_in links_in clauses_in pairs_in
+unfolding suffixes_in links_in arms_in clauses_in pairs_in
 spells_parts (Expr-F.Name name) = at_layer (Expr-F.Name name)
 spells_parts (Expr-F.Int number) = at_layer (Expr-F.Int number)
 spells_parts (Expr-F.Text text) = at_layer (Expr-F.Text text)
@@ -161,8 +172,7 @@ spells_parts (Expr-F.Signed signs operand) = at_layer (Expr-F.Signed signs opera
 spells_parts (Expr-F.Chain level first links) = at_layer (Expr-F.Chain level first links) ∙ ap (λ r. expr_spelling first ++ r) (links_again level first links)
 spells_parts (Expr-F.Compare left o right) = at_layer (Expr-F.Compare left o right) ∙ append_assoc (expr_spelling left) (compare_tokens o) (expr_spelling right)
 spells_parts (Expr-F.Not count operand) = at_layer (Expr-F.Not count operand)
-spells_parts (Expr-F.Conditional value condition other) =
-    at_layer (Expr-F.Conditional value condition other) ∙ append_assoc (expr_spelling value) (t.Word w.If ∷ expr_spelling condition) (t.Word w.Else ∷ expr_spelling other)
+spells_parts (Expr-F.Conditional arms last) = at_layer (Expr-F.Conditional arms last) ∙ ap (λ r. r ++ expr_spelling last) (arms_again last arms)
 
 -- ---- each variant, as code makes it
 
@@ -217,8 +227,8 @@ spells-Compare left o right = ap expr_spelling (sym (e.rolls-Compare left o righ
 pub spells-Not : (count : ℕ) (operand : Expr) → expr_spelling (e.Not count operand) ≡ parts_spelling (Expr-F.Not count operand)
 spells-Not count operand = ap expr_spelling (sym (e.rolls-Not count operand)) ∙ spells_parts (Expr-F.Not count operand)
 
-pub spells-Conditional : (value condition other : Expr) → expr_spelling (e.Conditional value condition other) ≡ parts_spelling (Expr-F.Conditional value condition other)
-spells-Conditional value condition other = ap expr_spelling (sym (e.rolls-Conditional value condition other)) ∙ spells_parts (Expr-F.Conditional value condition other)
+pub spells-Conditional : (arms : List (Arm Expr)) (last : Expr) → expr_spelling (e.Conditional arms last) ≡ parts_spelling (Expr-F.Conditional arms last)
+spells-Conditional arms last = ap expr_spelling (sym (e.rolls-Conditional arms last)) ∙ spells_parts (Expr-F.Conditional arms last)
 
 -- arguments, and then those that are named
 pub arguments_parts : (given : Arguments Expr) → expr_arguments_spelling given

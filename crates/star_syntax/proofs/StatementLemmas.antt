@@ -3,13 +3,10 @@ use Rattle.std.proofs.Common.{append_assoc, ◌≡◌, ◌∙◌, ℕ, Bool, Lis
 use Rattle.std.specs.List.{flat_map}
 use Rattle.std.proofs.lemmas.List.{length-map}
 use Rattle.std.proofs.lemmas.List.Folds.{flat_map-map}
-use Rattle.star_syntax.specs.declared.token.Token.{Token}
 use Rattle.star_syntax.specs.declared.token.Token.TheVariants as t
-use Rattle.star_syntax.specs.declared.token.Keyword.{Keyword}
 use Rattle.star_syntax.specs.declared.token.Keyword.TheVariants as w
 use Rattle.star_syntax.specs.declared.token.Mark.TheVariants as m
 use Rattle.star_syntax.specs.declared.expression.Expr.{Expr}
-use Rattle.star_syntax.specs.declared.expression.Named.{Named}
 use Rattle.star_syntax.specs.declared.statement.Line.{Line}
 use Rattle.star_syntax.specs.declared.statement.Block.{Block}
 use Rattle.star_syntax.specs.declared.statement.Block.TheVariants.{Inline, Indented}

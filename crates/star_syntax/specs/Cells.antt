@@ -4,7 +4,6 @@ use Rattle.std.specs.List.{filter_map, slice_get}
 use Rattle.star_syntax.specs.declared.statement.Definition.{Definition}
 use Rattle.star_syntax.specs.declared.statement.Statement.{Statement, out-Statement}
 use Rattle.star_syntax.specs.declared.statement.Statement.TheOpen.{Statement-F}
-use Rattle.star_syntax.specs.declared.statement.Module.{Module}
 
 abbrev pub layer_def : Statement-F Statement → Option (Definition Statement)
 layer_def (Statement-F.Line line) = None

@@ -8,7 +8,7 @@ use Rattle.star_syntax.specs.declared.expression.ChainLevel.TheVariants as level
 use Rattle.star_syntax.specs.declared.expression.ChainOp.{ChainOp}
 use Rattle.star_syntax.specs.declared.expression.ChainOp.TheVariants as chain
 use Rattle.star_syntax.specs.declared.expression.Link.{Link}
-use Rattle.star_syntax.specs.declared.expression.Named.{Named}
+use Rattle.star_syntax.specs.declared.expression.Arm.{Arm}
 use Rattle.star_syntax.specs.declared.expression.Arguments.{Arguments}
 use Rattle.star_syntax.specs.declared.expression.Suffix.{Suffix}
 use Rattle.star_syntax.specs.declared.expression.Suffix.TheVariants.{Index, Slice, Call, Method}
@@ -16,7 +16,6 @@ use Rattle.star_syntax.specs.declared.expression.Clause.{Clause}
 use Rattle.star_syntax.specs.declared.expression.Clause.TheVariants.{For, If}
 use Rattle.star_syntax.specs.declared.expression.Expr.{Expr, out-Expr, fold-Expr, every-Expr}
 use Rattle.star_syntax.specs.declared.expression.Expr.TheOpen.{Expr-F}
-use Rattle.star_syntax.specs.declared.statement.Small.{Small}
 use Rattle.star_syntax.specs.declared.statement.SmallKind.{SmallKind}
 use Rattle.star_syntax.specs.declared.statement.SmallKind.TheVariants.{Return, Break, Continue, Pass, Assign, Augmented, Tests}
 use Rattle.star_syntax.specs.declared.statement.Line.{Line}
@@ -96,7 +95,7 @@ layer_rank (Expr-F.Signed _ _) = unary_level
 layer_rank (Expr-F.Chain l _ _) = chain_rank l
 layer_rank (Expr-F.Compare _ _ _) = comparison_level
 layer_rank (Expr-F.Not _ _) = not_level
-layer_rank (Expr-F.Conditional _ _ _) = 0
+layer_rank (Expr-F.Conditional _ _) = 0
 
 -- the level of a tree
 unfoldable pub rank : Expr → ℕ
@@ -187,6 +186,10 @@ ClausesFit clauses = StartsWithFor clauses × AllByRecursion ClauseFits clauses
 abbrev pub LinkFits : ChainLevel → Link Expr → Type 0
 LinkFits l link = (op_level link.op ≡ l) × (chain_rank l < rank link.operand)
 
+-- neither part of an arm is a conditional
+abbrev pub ArmFits : Arm Expr → Type 0
+ArmFits arm = (or_level ≤ rank arm.value) × (or_level ≤ rank arm.condition)
+
 -- the operands of one node have the levels that the grammar asks for
 abbrev pub Fits : Expr-F Expr → Type 0
 Fits (Expr-F.Name _) = Unit {0}
@@ -206,7 +209,7 @@ Fits (Expr-F.Signed signs operand) = (primary_level ≤ rank operand) × (signs 
 Fits (Expr-F.Chain l first links) = (chain_rank l < rank first) × (links ≢ []) × AllByRecursion (LinkFits l) links
 Fits (Expr-F.Compare left o right) = (bit_or_level ≤ rank left) × (bit_or_level ≤ rank right)
 Fits (Expr-F.Not count operand) = (comparison_level ≤ rank operand) × (0 < count)
-Fits (Expr-F.Conditional value condition other) = (or_level ≤ rank value) × (or_level ≤ rank condition)
+Fits (Expr-F.Conditional arms last) = (arms ≢ []) × AllByRecursion ArmFits arms × (or_level ≤ rank last)
 
 -- each node of the tree fits
 unfoldable pub IsLevelled : Expr → Type 0

@@ -5,9 +5,7 @@ use Rattle.std.specs.List.{flat_map, filter_map}
 use Rattle.std.specs.List.Sorted.{IsStrictlySortedBy}
 use Rattle.std.specs.Str.{encode_utf8_all}
 use Rattle.chex_base.specs.TextOrder.{text_cmp}
-use Rattle.star_syntax.specs.declared.expression.Link.{Link}
 use Rattle.star_syntax.specs.declared.expression.Named.{Named}
-use Rattle.star_syntax.specs.declared.expression.Pair.{Pair}
 use Rattle.star_syntax.specs.declared.expression.Arguments.{Arguments}
 use Rattle.star_syntax.specs.declared.expression.Suffix.{Suffix}
 use Rattle.star_syntax.specs.declared.expression.Suffix.TheVariants.{Index, Slice, Call, Method}
@@ -22,7 +20,6 @@ use Rattle.star_syntax.specs.declared.statement.Line.{Line}
 use Rattle.star_syntax.specs.declared.statement.Block.{Block}
 use Rattle.star_syntax.specs.declared.statement.Block.TheVariants.{Inline, Indented}
 use Rattle.star_syntax.specs.declared.statement.Branch.{Branch}
-use Rattle.star_syntax.specs.declared.statement.Definition.{Definition}
 use Rattle.star_syntax.specs.declared.statement.Statement.{Statement, fold-Statement}
 use Rattle.star_syntax.specs.declared.statement.Statement.TheOpen.{Statement-F}
 use Rattle.star_syntax.specs.declared.statement.Module.{Module}
@@ -112,7 +109,7 @@ layer_seen (Expr-F.Signed _ operand) = inner operand.uses
 layer_seen (Expr-F.Chain _ first links) = inner (first.uses ++ flat_map (λ link. link.operand.uses) links)
 layer_seen (Expr-F.Compare left _ right) = inner (left.uses ++ right.uses)
 layer_seen (Expr-F.Not _ operand) = inner operand.uses
-layer_seen (Expr-F.Conditional value condition other) = inner (value.uses ++ (condition.uses ++ other.uses))
+layer_seen (Expr-F.Conditional arms last) = inner (flat_map (λ arm. arm.value.uses ++ arm.condition.uses) arms ++ last.uses)
 
 unfoldable pub seen : Expr → Seen
 seen = fold-Expr Seen layer_seen

@@ -16,6 +16,7 @@ use Rattle.star_syntax.specs.declared.operator.CompareOp.TheVariants as cmp
 use Rattle.star_syntax.specs.declared.expression.ChainOp.{ChainOp}
 use Rattle.star_syntax.specs.declared.expression.ChainOp.TheVariants as chain
 use Rattle.star_syntax.specs.declared.expression.Link.{Link}
+use Rattle.star_syntax.specs.declared.expression.Arm.{Arm}
 use Rattle.star_syntax.specs.declared.expression.Named.{Named}
 use Rattle.star_syntax.specs.declared.expression.Pair.{Pair}
 use Rattle.star_syntax.specs.declared.expression.Arguments.{Arguments}
@@ -138,6 +139,10 @@ clause_spelling (If condition) = t.Word w.If ∷ condition
 abbrev pub link_spelling : Link Tokens → Tokens
 link_spelling link = chain_token link.op ∷ link.operand
 
+-- `value if condition else`
+abbrev pub arm_spelling : Arm Tokens → Tokens
+arm_spelling arm = arm.value ++ t.Word w.If ∷ arm.condition ++ t.Word w.Else ∷ []
+
 abbrev pub layer_spelling : Expr-F Tokens → Tokens
 layer_spelling (Expr-F.Name name) = t.Name name ∷ []
 layer_spelling (Expr-F.Int number) = t.Int number ∷ []
@@ -161,8 +166,7 @@ layer_spelling (Expr-F.Signed signs operand) = map sign_token signs ++ operand
 layer_spelling (Expr-F.Chain level first links) = first ++ flat_map link_spelling links
 layer_spelling (Expr-F.Compare left o right) = left ++ compare_tokens o ++ right
 layer_spelling (Expr-F.Not count operand) = replicate count (t.Word w.Not) ++ operand
-layer_spelling (Expr-F.Conditional value condition other) =
-    value ++ t.Word w.If ∷ condition ++ t.Word w.Else ∷ other
+layer_spelling (Expr-F.Conditional arms last) = flat_map arm_spelling arms ++ last
 
 unfoldable pub expr_spelling : Expr → Tokens
 expr_spelling = fold-Expr Tokens layer_spelling

@@ -7,6 +7,7 @@ use Rattle.star_syntax.specs.declared.token.Token.TheVariants as t
 use Rattle.star_syntax.specs.declared.token.Mark.{Mark}
 use Rattle.star_syntax.specs.declared.token.Mark.TheVariants as m
 use Rattle.star_syntax.specs.declared.expression.Link.{Link}
+use Rattle.star_syntax.specs.declared.expression.Arm.{Arm}
 use Rattle.star_syntax.specs.declared.expression.Named.{Named}
 use Rattle.star_syntax.specs.declared.expression.Pair.{Pair}
 use Rattle.star_syntax.specs.declared.expression.Arguments.{Arguments}
@@ -73,6 +74,9 @@ expr_clause_spelling (If condition) = t.Word w.If ∷ expr_spelling condition
 abbrev pub expr_link_spelling : Link Expr → Tokens
 expr_link_spelling link = chain_token link.op ∷ expr_spelling link.operand
 
+abbrev pub expr_arm_spelling : Arm Expr → Tokens
+expr_arm_spelling arm = expr_spelling arm.value ++ t.Word w.If ∷ (expr_spelling arm.condition ++ t.Word w.Else ∷ [])
+
 -- what a node spells, over its parts
 abbrev pub parts_spelling : Expr-F Expr → Tokens
 parts_spelling (Expr-F.Name name) = t.Name name ∷ []
@@ -97,8 +101,7 @@ parts_spelling (Expr-F.Signed signs operand) = map sign_token signs ++ expr_spel
 parts_spelling (Expr-F.Chain level first links) = expr_spelling first ++ flat_map expr_link_spelling links
 parts_spelling (Expr-F.Compare left o right) = expr_spelling left ++ (compare_tokens o ++ expr_spelling right)
 parts_spelling (Expr-F.Not count operand) = replicate count (t.Word w.Not) ++ expr_spelling operand
-parts_spelling (Expr-F.Conditional value condition other) =
-    expr_spelling value ++ t.Word w.If ∷ (expr_spelling condition ++ t.Word w.Else ∷ expr_spelling other)
+parts_spelling (Expr-F.Conditional arms last) = flat_map expr_arm_spelling arms ++ expr_spelling last
 
 -- ---- statements
 

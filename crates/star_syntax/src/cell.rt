@@ -90,13 +90,15 @@ impl Cell {
         None
     }
 
-    /// An equal cell.
+    /// An equal cell, which shares the tree.
     pub fn copy(&self, alloc: Global) -> Result<Cell, NoMemory>
         ensures { IfOk result (λ copy. copy ≡ self.now) }
     {
         Ok(Cell {
             source: self.source.copy(alloc)?,
-            module: self.module.copy(alloc)?,
+            module: Module {
+                statements: self.module.statements.share()?,
+            },
             inputs: self.inputs.copy(alloc)?,
         })
     }

@@ -1,8 +1,8 @@
 //! The trees of expressions.
 //!
 //! A tree keeps all that its spelling needs, so that the tokens of a cell can be written again
-//! from it. The operands of a chain such as `a + b - c` stand in one node, so trees nest only
-//! where brackets do.
+//! from it. The operands of a chain such as `a + b - c` stand in one node, and so do the arms of
+//! `a if b else c if d else e`, so trees nest only where brackets do.
 
 use crate::operator::{BinaryOp, CompareOp, UnaryOp};
 use chex_base::Text;
@@ -41,8 +41,9 @@ pub enum Expr {
     Compare(Boxed<Expr>, CompareOp, Boxed<Expr>),
     /// How many `not` stand before the operand; at least one.
     Not(usize, Boxed<Expr>),
-    /// `value if condition else other`, in the order of spelling.
-    Conditional(Boxed<Expr>, Boxed<Expr>, Boxed<Expr>),
+    /// `value if condition else value if condition else .. last`: the arms, at least one, and what
+    /// stands after the last `else`.
+    Conditional(Items<Arm<Expr>>, Boxed<Expr>),
 }
 
 /// The lines of the grammar that are chains of operators, loosest first.
@@ -79,6 +80,13 @@ pub enum ChainOp {
 pub struct Link<E> {
     pub op: ChainOp,
     pub operand: E,
+}
+
+/// `value if condition else`
+#[derive(Drop)]
+pub struct Arm<E> {
+    pub value: E,
+    pub condition: E,
 }
 
 /// What follows an operand directly.

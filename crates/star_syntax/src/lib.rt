@@ -5,7 +5,6 @@
 #![tactic(auto)]
 
 pub mod cell;
-pub mod copying;
 pub mod expression;
 pub mod names;
 pub mod operator;
@@ -15,10 +14,14 @@ pub mod token;
 pub mod tokens;
 
 pub use cell::{Cell, Cells, Program};
-pub use expression::{Arguments, ChainLevel, ChainOp, Clause, Expr, Link, Named, Pair, Suffix};
+pub use expression::{
+    Arguments, Arm, ChainLevel, ChainOp, Clause, Expr, Link, Named, Pair, Suffix,
+};
 pub use names::Names;
 pub use operator::{BinaryOp, CompareOp, UnaryOp};
 pub use spelling::{Tokens, spell};
-pub use statement::{Block, Branch, Def, Definition, Line, Module, Small, SmallKind, Statement};
+pub use statement::{
+    Block, Branch, Def, Definition, Line, Module, Small, SmallKind, Statement, Statements,
+};
 pub use token::{Keyword, Mark, Spanned, Token};
 pub use tokens::SpannedTokens;

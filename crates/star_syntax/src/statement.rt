@@ -3,15 +3,67 @@
 //! Targets of assignments and loops are expressions too: which expressions may stand there is
 //! a rule of the grammar, and no type of its own.
 
+ghost use Rattle.std.specs.Prelude.{◌≡◌, IfOk};
+
 use crate::expression::{Expr, Named};
 use crate::operator::BinaryOp;
-use chex_base::Text;
+use chex_base::{NoMemory, Text};
 use sqlite_items::Items;
+use std::alloc::Global;
+use std::marker::Model;
+use std::rc::Rc;
 
 /// A cell's statements, in order.
 #[derive(Drop)]
 pub struct Module {
-    pub statements: Items<Statement>,
+    pub statements: Statements,
+}
+
+/// Statements that are shared and not copied. Contracts see the list.
+#[derive(Drop)]
+pub struct Statements {
+    items: Rc<Items<Statement>>,
+}
+
+impl Model for Statements {
+    ghost use Rattle.std.specs.Prelude.{List};
+    ghost use Rattle.std.specs.Coded.{coded_list};
+    ghost use Rattle.star_syntax.specs.declared.statement.Statement.{Statement};
+    ghost use Rattle.star_syntax.specs.contracts.statement.Statement as one;
+
+    ghost Value = { List Statement };
+
+    ghost coded = { coded_list one.the_row.coded };
+
+    ghost view = { λ statements. statements.items.value };
+}
+
+impl Statements {
+    /// These statements, in their order.
+    pub fn new(alloc: Global, items: Items<Statement>) -> Result<Statements, NoMemory>
+        ensures { IfOk result (λ statements. statements ≡ items) }
+    {
+        Ok(Statements {
+            items: Rc::new(alloc, items)?,
+        })
+    }
+
+    /// The statements, in their order. Takes no memory.
+    pub fn as_slice(&self) -> &[Statement]
+        ensures { result.now ≡ self.now }
+    {
+        self.items.as_slice()
+    }
+
+    /// The same statements, held once more: the trees are not copied. Fails where they are held
+    /// too often.
+    pub fn share(&self) -> Result<Statements, NoMemory>
+        ensures { IfOk result (λ shared. shared ≡ self.now) }
+    {
+        Ok(Statements {
+            items: self.items.clone()?,
+        })
+    }
 }
 
 /// A statement. The number in front is the line of its first token.

@@ -3,10 +3,10 @@
 ghost use Rattle.std.specs.Prelude.{◌≡◌, ◌++◌, [], ◌∷◌, ℕ, map, OnOk};
 ghost use Rattle.std.specs.List.{flat_map};
 ghost use Rattle.star_syntax.specs.Spelling.{expr_spelling, tests_spelling, default_spelling, listed, if_written, sign_token, compare_tokens};
-ghost use Rattle.star_syntax.specs.SpellingOfParts.{expr_suffix_spelling, expr_clause_spelling, expr_pair_spelling, expr_link_spelling, expr_arguments_spelling, optional_spelling, expr_step_spelling, listed_after, parts_spelling};
+ghost use Rattle.star_syntax.specs.SpellingOfParts.{expr_suffix_spelling, expr_clause_spelling, expr_pair_spelling, expr_link_spelling, expr_arm_spelling, expr_arguments_spelling, optional_spelling, expr_step_spelling, listed_after, parts_spelling};
 ghost use Rattle.star_syntax.specs.declared.expression.Expr.TheOpen.{Expr-F};
 
-use crate::expression::{Arguments, Clause, Expr, Link, Named, Pair, Suffix};
+use crate::expression::{Arguments, Arm, Clause, Expr, Link, Named, Pair, Suffix};
 use crate::operator::{CompareOp, UnaryOp};
 use crate::spelling::pieces::{
     chain_token, comparison, mark, mark_before, mark_if, name, nots, signs, word,
@@ -50,9 +50,7 @@ pub fn expr(alloc: Global, out: &mut Vec<Token>, tree: &Expr) -> Result<(), NoMe
             nots(out, *count)?;
             expr(alloc, out, operand.get())?;
         }
-        Expr::Conditional(value, condition, other) => {
-            conditional(alloc, out, value.get(), condition.get(), other.get())?;
-        }
+        Expr::Conditional(arms, last) => conditional(alloc, out, arms.as_slice(), last.get())?,
     }
     Ok(())
 }
@@ -345,15 +343,16 @@ fn compare(
 fn conditional(
     alloc: Global,
     out: &mut Vec<Token>,
-    value: &Expr,
-    condition: &Expr,
-    other: &Expr,
+    arms: &[Arm<Expr>],
+    last: &Expr,
 ) -> Result<(), NoMemory>
-    ensures { OnOk result (out.new.items ≡ out.old.items ++ parts_spelling (Expr-F.Conditional value.now condition.now other.now)) }
+    ensures { OnOk result (out.new.items ≡ out.old.items ++ (flat_map expr_arm_spelling arms.now ++ expr_spelling last.now)) }
 {
-    expr(alloc, out, value)?;
-    word(out, Keyword::If)?;
-    expr(alloc, out, condition)?;
-    word(out, Keyword::Else)?;
-    expr(alloc, out, other)
+    for arm in arms {
+        expr(alloc, out, &arm.value)?;
+        word(out, Keyword::If)?;
+        expr(alloc, out, &arm.condition)?;
+        word(out, Keyword::Else)?;
+    }
+    expr(alloc, out, last)
 }

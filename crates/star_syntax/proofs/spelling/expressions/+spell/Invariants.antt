@@ -1,9 +1,9 @@
-use Rattle.std.proofs.Common.{◌≡◌, ◌++◌, ◌∷◌, ℕ, ◌+◌, ◌*◌, max, map, take}
+use Rattle.std.proofs.Common.{◌≡◌, ◌++◌, ◌+◌, ◌*◌, max, map, take}
 use Rattle.std.specs.List.{flat_map}
 use Rattle.star_syntax.specs.declared.expression.Expr.{size-Expr}
-use Rattle.star_syntax.specs.declared.expression.Expr.TheViews.{weight-Expr-ListOver-1, weight-Expr-Primary-1, weight-Expr-Chain-2}
+use Rattle.star_syntax.specs.declared.expression.Expr.TheViews.{weight-Expr-ListOver-1, weight-Expr-Primary-1, weight-Expr-Chain-2, weight-Expr-Conditional-0}
 use Rattle.star_syntax.specs.Spelling.{expr_spelling, default_spelling, listed}
-use Rattle.star_syntax.specs.SpellingOfParts.{expr_suffix_spelling, expr_clause_spelling, expr_pair_spelling, expr_link_spelling, listed_after}
+use Rattle.star_syntax.specs.SpellingOfParts.{expr_suffix_spelling, expr_clause_spelling, expr_pair_spelling, expr_link_spelling, expr_arm_spelling, listed_after}
 use Rattle.star_syntax.proofs.spelling.expressions.+spell.Given as goal
 
 -- each function goes down the tree, or stays and calls one of a lower number
@@ -54,7 +54,7 @@ abbrev pub decreases-compare : goal.decreases-compare
 decreases-compare l = 5 * (max (size-Expr l.left.now) (size-Expr l.right.now)) + 1
 
 abbrev pub decreases-conditional : goal.decreases-conditional
-decreases-conditional l = 5 * (max (size-Expr l.value.now) (max (size-Expr l.condition.now) (size-Expr l.other.now))) + 1
+decreases-conditional l = 5 * (max (weight-Expr-Conditional-0 l.arms.now) (size-Expr l.last.now)) + 1
 
 abbrev pub decreases-list_over : goal.decreases-list_over
 decreases-list_over l = 5 * (max (size-Expr l.item.now) (weight-Expr-ListOver-1 l.over.now)) + 3
@@ -84,3 +84,6 @@ invariant-suffixes-loop-suffix l = l.out.items ≡ l.fn.out.items ++ flat_map ex
 
 abbrev pub invariant-chain-loop-link : goal.invariant-chain-loop-link
 invariant-chain-loop-link l = l.out.items ≡ l.initial.out.items ++ flat_map expr_link_spelling (take l.link-index l.links)
+
+abbrev pub invariant-conditional-loop-arm : goal.invariant-conditional-loop-arm
+invariant-conditional-loop-arm l = l.out.items ≡ l.initial.out.items ++ flat_map expr_arm_spelling (take l.arm-index l.arms)

@@ -1,4 +1,4 @@
-use Rattle.std.proofs.Common.{◌≡◌, arith}
+use Rattle.std.proofs.Common.{arith}
 use Rattle.star_syntax.proofs.StatementLemmas.{statement_laws, if_whole, def_parts}
 use Rattle.star_syntax.proofs.spelling.statements.+spell.Goals as goal
 

@@ -1,4 +1,4 @@
-use Rattle.std.proofs.Common.{◌≡◌, ◌++◌, ◌∷◌, ℕ, ◌+◌, ◌*◌, take}
+use Rattle.std.proofs.Common.{◌≡◌, ◌++◌, ◌+◌, ◌*◌, take}
 use Rattle.std.specs.List.{flat_map}
 use Rattle.star_syntax.specs.declared.token.Keyword.TheVariants as w
 use Rattle.star_syntax.specs.Spelling.{statement_spelling}
