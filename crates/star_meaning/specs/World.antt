@@ -1,5 +1,5 @@
 -- What a running cell meets beside the state: its frame and what it has written.
-use Rattle.std.specs.Prelude.{ℕ, ◌-◌, ◌==◌, Bool, if◌then◌else◌, List, [], ◌∷◌, ◌++◌, map, Option, Some, None, option_map, is_some, bytes_eq}
+use Rattle.std.specs.Prelude.{ℕ, ◌-◌, Bool, if◌then◌else◌, List, [], ◌∷◌, ◌++◌, map, Option, Some, None, option_map, is_some, bytes_eq}
 use Rattle.std.specs.List.{list_any}
 use Rattle.star_value.specs.declared.failure.Failure.{Failure}
 use Rattle.star_value.specs.declared.failure.Failure.TheVariants as failure
@@ -173,9 +173,6 @@ locking ids p = λ w. unlocked w.frame.locked (p (with_frame (record w.frame { l
 -- the steps of a function's body: its own block, the function active
 unfoldable pub in_function : {C A : Type 0} → ℕ → Block → Work C A → Work C A
 in_function id block p = λ w. put_back w.frame (p (with_frame (record { blocks = block ∷ []; active = w.frame.active ++ id ∷ []; locked = w.frame.locked }) w))
-
-abbrev pub has : List ℕ → ℕ → Bool
-has ids id = list_any (λ other. other == id) ids
 
 -- ---- iteration
 
