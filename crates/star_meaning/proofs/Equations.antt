@@ -304,16 +304,16 @@ module _ {C : Type 0} (setting : Setting C) (call : Callee C) where
   unfolding statement_of
   statement_roll x = fold-roll-Statement (Doing C) (layer_of setting call) x
 
-  pub statement_line : (line : Line) → (last : Bool) (number : ℕ) (w : World C) → statement_of setting call (s.Line line) last number w ≡ layer_of setting call (map-Statement Statement (Doing C) (statement_of setting call) (Statement-F.Line line)) last number w
+  pub statement_line : (line : Line) → (last : Bool) (number : Option ℕ) (w : World C) → statement_of setting call (s.Line line) last number w ≡ layer_of setting call (map-Statement Statement (Doing C) (statement_of setting call) (Statement-F.Line line)) last number w
   statement_line line last number w = ap (λ doing. doing last number w) (ap (statement_of setting call) (sym (s.rolls-Line line)) ∙ statement_roll (Statement-F.Line line))
 
-  pub statement_if : (at : ℕ) → (first : Branch Statement) → (more : List (Branch Statement)) → (other : Option (Block Statement)) → (last : Bool) (number : ℕ) (w : World C) → statement_of setting call (s.If at first more other) last number w ≡ layer_of setting call (map-Statement Statement (Doing C) (statement_of setting call) (Statement-F.If at first more other)) last number w
+  pub statement_if : (at : ℕ) → (first : Branch Statement) → (more : List (Branch Statement)) → (other : Option (Block Statement)) → (last : Bool) (number : Option ℕ) (w : World C) → statement_of setting call (s.If at first more other) last number w ≡ layer_of setting call (map-Statement Statement (Doing C) (statement_of setting call) (Statement-F.If at first more other)) last number w
   statement_if at first more other last number w = ap (λ doing. doing last number w) (ap (statement_of setting call) (sym (s.rolls-If at first more other)) ∙ statement_roll (Statement-F.If at first more other))
 
-  pub statement_for : (at : ℕ) → (targets : List Expr) → (over : List Expr) → (body : Block Statement) → (last : Bool) (number : ℕ) (w : World C) → statement_of setting call (s.For at targets over body) last number w ≡ layer_of setting call (map-Statement Statement (Doing C) (statement_of setting call) (Statement-F.For at targets over body)) last number w
+  pub statement_for : (at : ℕ) → (targets : List Expr) → (over : List Expr) → (body : Block Statement) → (last : Bool) (number : Option ℕ) (w : World C) → statement_of setting call (s.For at targets over body) last number w ≡ layer_of setting call (map-Statement Statement (Doing C) (statement_of setting call) (Statement-F.For at targets over body)) last number w
   statement_for at targets over body last number w = ap (λ doing. doing last number w) (ap (statement_of setting call) (sym (s.rolls-For at targets over body)) ∙ statement_roll (Statement-F.For at targets over body))
 
-  pub statement_def : (at : ℕ) → (def : Definition Statement) → (last : Bool) (number : ℕ) (w : World C) → statement_of setting call (s.Def at def) last number w ≡ layer_of setting call (map-Statement Statement (Doing C) (statement_of setting call) (Statement-F.Def at def)) last number w
+  pub statement_def : (at : ℕ) → (def : Definition Statement) → (last : Bool) (number : Option ℕ) (w : World C) → statement_of setting call (s.Def at def) last number w ≡ layer_of setting call (map-Statement Statement (Doing C) (statement_of setting call) (Statement-F.Def at def)) last number w
   statement_def at def last number w = ap (λ doing. doing last number w) (ap (statement_of setting call) (sym (s.rolls-Def at def)) ∙ statement_roll (Statement-F.Def at def))
 
 -- ---- the names that trees bind, and the function that a statement defines

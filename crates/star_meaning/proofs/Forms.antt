@@ -142,7 +142,7 @@ module _ {C : Type 0} (setting : Setting C) (call : Callee C) where
   body_again at targets over (blocks.Inline line) = refl
   body_again at targets over (blocks.Indented all) = refl
 
-  pub for_is : (at : ℕ) (targets over : List Expr) (body : Block Statement) (last : Bool) (number : ℕ) (w : World C)
+  pub for_is : (at : ℕ) (targets over : List Expr) (body : Block Statement) (last : Bool) (number : Option ℕ) (w : World C)
       → statement_of setting call (s.For at targets over body) last number w ≡ layer_of setting call (Statement-F.For at targets over (block_done body)) last number w
   unfolding body_in_loop
   for_is at targets over body last number w =
@@ -181,7 +181,7 @@ module _ {C : Type 0} (setting : Setting C) (call : Callee C) where
   else_again at first more (Some (blocks.Inline line)) = refl
   else_again at first more (Some (blocks.Indented all)) = refl
 
-  pub if_is : (at : ℕ) (first : Branch Statement) (more : List (Branch Statement)) (other : Option (Block Statement)) (last : Bool) (number : ℕ) (w : World C)
+  pub if_is : (at : ℕ) (first : Branch Statement) (more : List (Branch Statement)) (other : Option (Block Statement)) (last : Bool) (number : Option ℕ) (w : World C)
       → statement_of setting call (s.If at first more other) last number w ≡ layer_of setting call (Statement-F.If at (branch_done first) (map branch_done more) (option_map block_done other)) last number w
   unfolding more_in_if first_in_if else_in_if
   if_is at first more other last number w =
@@ -193,9 +193,9 @@ module _ {C : Type 0} (setting : Setting C) (call : Callee C) where
       ∙ ap (λ o. layer_of setting call (Statement-F.If at (branch_done first) (map branch_done more) o) last number w) (else_again at first more other)
 
   -- statements in a block, one after another
-  in_order_again : (last : Bool) (all : List Statement) → in_order (λ l s. s false 0) last (map (statement_of setting call) all) ≡ in_order (λ l s. statement_of setting call s false 0) last all
+  in_order_again : (last : Bool) (all : List Statement) → in_order (λ l s. s false None) last (map (statement_of setting call) all) ≡ in_order (λ l s. statement_of setting call s false None) last all
   in_order_again last [] = refl
-  in_order_again last (x ∷ all) = ap (λ rest. statement_of setting call x false 0 >>= go_on rest) (in_order_again last all)
+  in_order_again last (x ∷ all) = ap (λ rest. statement_of setting call x false None >>= go_on rest) (in_order_again last all)
 
   pub block_is : (body : Block Statement) → block_of setting call (block_done body) ≡ body_of setting call body
   block_is (blocks.Inline line) = refl

@@ -26,7 +26,7 @@ module _ {C D : Type 0} (name : Names C D) (st : Setting C) (su : Setting D) (sa
   same_statements_from : (c : Callee C) (d : Callee D) → SameCallee name c d → (n : ℕ) (ss : List Statement) → SameSteps name (statements_from st c n ss) (statements_from su d n ss)
   same_statements_from c d h n [] = same_going name flow.On
   same_statements_from c d h n (s ∷ ss) =
-      same_next name _ _ _ _ (same_statement name st su same_st c d h s _ n) (same_go_on name _ _ (same_statements_from c d h (n + is_def s) ss))
+      same_next name _ _ _ _ (same_statement name st su same_st c d h s _ (Some n)) (same_go_on name _ _ (same_statements_from c d h (n + is_def s) ss))
 
   ran_as : (allowance : ℕ) (o : Outcome (World C) Fault Flow) → ran_of allowance (outcome_as (world_as name.to) o) ≡ ((ran_of allowance o).0, state_as name.to (ran_of allowance o).1)
   ran_as allowance (Went f w) = refl

@@ -18,7 +18,8 @@ use Rattle.star_meaning.specs.State.{dict_get, dict_put}
 use Rattle.star_meaning.specs.Steps.{Steps, ◌>>=◌, ◌>>◌, fail}
 use Rattle.star_meaning.specs.Operators.{unpacked}
 use Rattle.star_meaning.specs.Builtins.{ByName}
-use Rattle.star_meaning.specs.World.{Work, World, acting, distinct, has, in_block, lock_of, unbound}
+use Rattle.star_meaning.specs.Values.{has}
+use Rattle.star_meaning.specs.World.{Work, World, acting, distinct, in_block, lock_of, unbound}
 use Rattle.star_meaning.specs.Expressions.{item_value, Callee, Meant, call_function, choose, clause_names, clauses_from, compared, comprehension, dict_turn, display_pairs, input_value, list_turn, loop_over, method_called, named_from, new_items, new_key, next_item, optional_value, signed, step_value, store_at, store_each, store_in, store_items, tests_value, truth, values, values_from}
 use Rattle.star_meaning.specs.Renaming.{Names, world_as, outcome_as, reached, Same, SameSteps, SameCallee, SameMeant}
 use Rattle.star_meaning.specs.Growing.{Grown}

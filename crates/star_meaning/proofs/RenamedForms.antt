@@ -24,8 +24,8 @@ use Rattle.star_value.specs.declared.value.Value.TheOpen.{Value-F}
 use Rattle.star_value.specs.declared.value.Value.TheVariants as value
 use Rattle.star_meaning.specs.Steps.{Action, ◌>>=◌, pure, fail, given_or}
 use Rattle.star_meaning.specs.Builtins.{ByName}
-use Rattle.star_meaning.specs.World.{Work, operate, operation}
-use Rattle.star_meaning.specs.Expressions.{Callee, Meant, Setting, call_written, called, called_at, chained, front, headed, input_name, input_value, linked, lone_literal, meant, name_of, named_values, naming, parts, place, read_input, step, suffix_value, suffixed, turned, without_first}
+use Rattle.star_meaning.specs.World.{Work, operate, operation, without_first}
+use Rattle.star_meaning.specs.Expressions.{Callee, Meant, Setting, call_written, called, called_at, chained, front, headed, input_name, input_value, linked, lone_literal, meant, name_of, named_values, naming, parts, place, read_input, step, suffix_value, suffixed, turned}
 use Rattle.star_meaning.specs.Renaming.{Names, Same, SameSteps, SameSetting, SameCallee, SameMeant}
 use Rattle.star_meaning.proofs.Renamed.{same_then, same_given_or, same_charge}
 use Rattle.star_meaning.proofs.RenamedShowing.{same_new_dict, same_new_list, same_new_tuple}
@@ -157,7 +157,7 @@ module _ {C D : Type 0} (name : Names C D) (st : Setting C) (su : Setting D) (sa
   input_as true (suffix.Method n x ∷ xs) (suffix.Slice a b e ∷ ys) h = absurd h.0
   input_as true (suffix.Method n x ∷ xs) (suffix.Call y ∷ ys) h = absurd h.0
 
-  rest_alike : (xs : List (Suffix (Meant C))) (ys : List (Suffix (Meant D))) → Each AlikeSuffix xs ys → Each AlikeSuffix (without_first st c xs) (without_first su d ys)
+  rest_alike : (xs : List (Suffix (Meant C))) (ys : List (Suffix (Meant D))) → Each AlikeSuffix xs ys → Each AlikeSuffix (without_first xs) (without_first ys)
   rest_alike [] [] h = tt
   rest_alike (x ∷ xs) (y ∷ ys) h = h.1
   rest_alike [] (y ∷ ys) h = absurd h

@@ -15,9 +15,9 @@ use Rattle.star_value.specs.declared.value.Value.{Value, out-Value}
 use Rattle.star_value.specs.declared.value.Value.TheOpen.{Value-F}
 use Rattle.star_meaning.specs.State.{list, dict, dict_get, dict_put, with_list, with_dict}
 use Rattle.star_meaning.specs.Steps.{Action, change}
-use Rattle.star_meaning.specs.Values.{integer, times, floor_of, rest_of, is_zero, place_of}
+use Rattle.star_meaning.specs.Values.{has, integer, times, floor_of, rest_of, is_zero, place_of}
 use Rattle.star_meaning.specs.Showing.{Naming}
-use Rattle.star_meaning.specs.Operators.{bound, or_int, add_at, added_in_place, augmented, binary, Bounds, charged_list, check_sliced, check_unlocked, decimals_fit, divided, extend, filled, formatted_parts, index, index_at, is_locked, is_sliced, item_at, joined_lists, modulo_at, multiply_at, on_ints, put_key, repeated_list, slice, slice_at, stepped, store, store_at, store_item, store_key, taken, unary, unpacked, unpacked_at, value_at_key, values_for, values_taken}
+use Rattle.star_meaning.specs.Operators.{bound, or_int, add_at, added_in_place, augmented, binary, Bounds, charged_list, check_sliced, check_unlocked, decimals_fit, divided, extend, filled, formatted_parts, index, index_at, is_sliced, item_at, joined_lists, modulo_at, multiply_at, on_ints, put_key, repeated_list, slice, slice_at, stepped, store, store_at, store_item, store_key, taken, unary, unpacked, unpacked_at, value_at_key, values_for, values_taken}
 use Rattle.star_meaning.specs.Renaming.{Names, state_as, Same}
 use Rattle.star_meaning.proofs.Renamed.{same_then, same_pure, same_fail, same_given_or, same_charge, same_read, same_change, list_as, dict_as, with_list_as, with_dict_as}
 use Rattle.star_meaning.proofs.GrownLemmas.{grown_dict, grown_list}
@@ -112,7 +112,7 @@ module _ {C D : Type 0} (name : Names C D) where
 
   pub same_check_unlocked : (locked : List ℕ) (id : ℕ) → Same name (check_unlocked locked id) (check_unlocked locked id)
   unfolding check_unlocked
-  same_check_unlocked locked id = same_if_then name (is_locked locked id) _ _ _ _ (same_fail name _) (same_pure name _)
+  same_check_unlocked locked id = same_if_then name (has locked id) _ _ _ _ (same_fail name _) (same_pure name _)
 
   -- other items in a list, or other pairs in a dict, that are made of those there
   pub same_list_change : (id : ℕ) (by : List Value → List Value) → Same name (change (λ s. with_list s id (by (list s id)))) (change (λ s. with_list s id (by (list s id))))

@@ -71,12 +71,12 @@ module _ {C D : Type 0} (name : Names C D) where
   same_for_turns f g p q h k (x ∷ xs) = same_next name _ _ _ _ (same_next name _ _ _ _ (h x) (λ _. k)) (same_after_turn _ _ (same_for_turns f g p q h k xs))
 
   abbrev pub SameDoing : Doing C → Doing D → Type 0
-  SameDoing p q = (last : Bool) (number : ℕ) → SameSteps name (p last number) (q last number)
+  SameDoing p q = (last : Bool) (number : Option ℕ) → SameSteps name (p last number) (q last number)
 
   -- statements in a block
-  same_block : (ps : List (Doing C)) (qs : List (Doing D)) → Each SameDoing ps qs → SameSteps name (in_order (λ last s. s false 0) false ps) (in_order (λ last s. s false 0) false qs)
+  same_block : (ps : List (Doing C)) (qs : List (Doing D)) → Each SameDoing ps qs → SameSteps name (in_order (λ last s. s false None) false ps) (in_order (λ last s. s false None) false qs)
   same_block [] [] h = same_going name flow.On
-  same_block (p ∷ ps) (q ∷ qs) h = same_next name _ _ _ _ (h.0 false 0) (same_go_on _ _ (same_block ps qs h.1))
+  same_block (p ∷ ps) (q ∷ qs) h = same_next name _ _ _ _ (h.0 false None) (same_go_on _ _ (same_block ps qs h.1))
   same_block [] (q ∷ qs) h = absurd h
   same_block (p ∷ ps) [] h = absurd h
 
@@ -245,7 +245,8 @@ module _ {C D : Type 0} (name : Names C D) where
         (same_branches at first more _ _ (same_else_of at first more other)))
     layer_same (Statement-F.For at targets over body) last number =
         same_next name _ _ _ _ (same_located name at _ _ (same_next name _ _ _ _ (same_acting name _ _ (same_charge name 1)) (λ _. same_iterated over))) (same_repeated at targets _ _ (same_block_of body))
-    layer_same (Statement-F.Def at def) last number =
+    layer_same (Statement-F.Def at def) last None = same_located name at _ _ (same_then_on _ _ (same_acting name _ _ (same_charge name 1)))
+    layer_same (Statement-F.Def at def) last (Some number) =
         same_located name at _ _ (same_then_on _ _ (same_next name _ _ _ _ (same_acting name _ _ (same_charge name 1)) (λ _. same_defined _ _ number refl refl)))
 
     rolled_same : (x : Statement-F Statement) → SameDoing (layer_of st c (map-Statement Statement (Doing C) (statement_of st c) x)) (layer_of su d (map-Statement Statement (Doing D) (statement_of su d) x))
@@ -262,7 +263,7 @@ module _ {C D : Type 0} (name : Names C D) where
 
     same_body : (b : Block Statement) → SameSteps name (body_of st c b) (body_of su d b)
     same_body (blocks.Inline line) = same_line_of false line
-    same_body (blocks.Indented ss) = same_in_order _ _ (λ last s. same_statement s false 0) false ss
+    same_body (blocks.Indented ss) = same_in_order _ _ (λ last s. same_statement s false None) false ss
 
     -- ---- calls of functions
 

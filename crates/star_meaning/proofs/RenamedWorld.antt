@@ -7,7 +7,7 @@ use Rattle.star_value.specs.declared.value.Value.{Value}
 use Rattle.star_value.specs.Weight.{weight}
 use Rattle.star_meaning.specs.State.{Object, State, global, set_global}
 use Rattle.star_meaning.specs.Steps.{Outcome, Went, Failed, Steps, Store, Action, and_then, ◌>>=◌, pure, fail, given_or}
-use Rattle.star_meaning.specs.World.{Block, Frame, World, Work, acting, bind, binding, in_block, in_function, located, located_at, locking, look_up, operate, operation, put_back, seen, slot_of, turns, unlocked, value_in, with_frame, with_store, write}
+use Rattle.star_meaning.specs.World.{Block, Frame, World, Work, acting, bind, binding, in_block, in_function, left_block, located, located_at, locking, look_up, operate, operation, put_back, seen, slot_of, turns, unlocked, value_in, with_frame, with_store, write}
 use Rattle.star_meaning.specs.Renaming.{Names, state_as, store_as, world_as, outcome_as, reached, Same, SameSteps}
 use Rattle.star_meaning.specs.Growing.{Grown}
 use Rattle.star_meaning.proofs.GrownLemmas.{grown_same, grown_then}
@@ -39,6 +39,10 @@ grown_binding here (Some slot) n v w = grown_same here w.store.state.objects
 grown_put_back : {C E A : Type 0} (here : C) (os : List (Object C)) (f : Frame) (o : Outcome (World C) E A) → Grown here os (reached o).store.state.objects → Grown here os (reached (put_back f o)).store.state.objects
 grown_put_back here os f (Went a w) h = h
 grown_put_back here os f (Failed e w) h = h
+
+grown_left : {C E A : Type 0} (here : C) (os : List (Object C)) (o : Outcome (World C) E A) → Grown here os (reached o).store.state.objects → Grown here os (reached (left_block o)).store.state.objects
+grown_left here os (Went a w) h = h
+grown_left here os (Failed e w) h = h
 
 grown_located : {C A : Type 0} (here : C) (os : List (Object C)) (line : ℕ) (o : Outcome (World C) Failure A) → Grown here os (reached o).store.state.objects → Grown here os (reached (located_at line o)).store.state.objects
 grown_located here os line (Went a w) h = h
@@ -136,12 +140,16 @@ module _ {C D : Type 0} (name : Names C D) where
   put_back_at f (Went a w) = refl
   put_back_at f (Failed e w) = refl
 
+  left_block_at : {E A : Type 0} (o : Outcome (World C) E A) → left_block (outcome_as (world_as name.to) o) ≡ outcome_as (world_as name.to) (left_block o)
+  left_block_at (Went a w) = refl
+  left_block_at (Failed e w) = refl
+
   pub same_in_block : {A : Type 0} (block : Block) (p : Work C A) (q : Work D A) → SameSteps name p q → SameSteps name (in_block block p) (in_block block q)
   unfolding in_block
   same_in_block block p q h = record {
-    holds = λ w. ap (put_back w.frame) (h.holds (with_frame (record w.frame { blocks = block ∷ w.frame.blocks }) w))
-        ∙ put_back_at w.frame (p (with_frame (record w.frame { blocks = block ∷ w.frame.blocks }) w));
-    keeps = λ w. grown_put_back name.here w.store.state.objects w.frame (p (with_frame (record w.frame { blocks = block ∷ w.frame.blocks }) w)) (h.keeps (with_frame (record w.frame { blocks = block ∷ w.frame.blocks }) w));
+    holds = λ w. ap left_block (h.holds (with_frame (record w.frame { blocks = block ∷ w.frame.blocks }) w))
+        ∙ left_block_at (p (with_frame (record w.frame { blocks = block ∷ w.frame.blocks }) w));
+    keeps = λ w. grown_left name.here w.store.state.objects (p (with_frame (record w.frame { blocks = block ∷ w.frame.blocks }) w)) (h.keeps (with_frame (record w.frame { blocks = block ∷ w.frame.blocks }) w));
   }
 
   pub same_in_function : {A : Type 0} (id : ℕ) (block : Block) (p : Work C A) (q : Work D A) → SameSteps name p q → SameSteps name (in_function id block p) (in_function id block q)

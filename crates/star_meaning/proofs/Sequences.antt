@@ -1,5 +1,6 @@
 -- One after another: statements, turns and operands whose outcomes are known.
 use Rattle.std.proofs.Common.{◌≡◌, ℕ, ◌+◌, List, [], ◌∷◌, ◌++◌, ap, ◌∙◌}
+use Rattle.std.specs.Prelude.{Some}
 use Rattle.star_syntax.specs.declared.statement.Statement.{Statement}
 use Rattle.star_value.specs.declared.value.Value.{Value}
 use Rattle.star_meaning.specs.declared.flow.Flow.{Flow}
@@ -12,7 +13,7 @@ use Rattle.star_meaning.specs.Statements.{after_turn, for_turns, go_on, statemen
 use Rattle.star_meaning.specs.Cells.{is_def, statements_from}
 
 module _ {C : Type 0} (setting : Setting C) (call : Callee C) where
-  pub next_statement : (n : ℕ) (s : Statement) (more : List Statement) (w v : World C) → statement_of setting call s (is_empty more) n w ≡ Went flow.On v
+  pub next_statement : (n : ℕ) (s : Statement) (more : List Statement) (w v : World C) → statement_of setting call s (is_empty more) (Some n) w ≡ Went flow.On v
       → statements_from setting call n (s ∷ more) w ≡ statements_from setting call (n + is_def s) more v
   next_statement n s more w v h = ap (λ o. and_then o (go_on (statements_from setting call (n + is_def s) more))) h
 

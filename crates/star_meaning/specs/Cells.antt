@@ -1,5 +1,5 @@
 -- The meaning of cells and versions.
-use Rattle.std.specs.Prelude.{ℕ, ◌+◌, ◌-◌, if◌then◌else◌, List, [], ◌∷◌, ◌++◌, map, Option, is_some, slice_get, codes, sum}
+use Rattle.std.specs.Prelude.{ℕ, ◌+◌, ◌-◌, if◌then◌else◌, List, [], ◌∷◌, ◌++◌, map, Option, Some, is_some, slice_get, codes, sum}
 use Rattle.std.specs.Fmt.{decimal}
 use Rattle.chex_base.specs.declared.input.Input.{Input}
 use Rattle.star_syntax.specs.declared.statement.Definition.{Definition}
@@ -30,7 +30,7 @@ is_def s = if is_some (def_of s) then 1 else 0
 abbrev pub statements_from : {C : Type 0} → Setting C → Callee C → ℕ → List Statement → Course C Flow
 statements_from setting call number [] = pure flow.On
 statements_from setting call number (s ∷ more) =
-    statement_of setting call s (is_empty more) number >>= go_on (statements_from setting call (number + is_def s) more)
+    statement_of setting call s (is_empty more) (Some number) >>= go_on (statements_from setting call (number + is_def s) more)
 
 abbrev pub ran_of : {C : Type 0} → ℕ → Outcome (World C) Fault Flow → Ran × State C
 ran_of allowance (Went f w) = (record { end = end.Done; out = w.out; steps = allowance - w.store.left }, w.store.state)

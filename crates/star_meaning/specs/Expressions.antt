@@ -29,14 +29,14 @@ use Rattle.star_value.specs.declared.value.Value.TheOpen.{Value-F}
 use Rattle.star_value.specs.declared.value.Value.TheVariants as value
 use Rattle.star_meaning.specs.State.{dict_get, dict_put}
 use Rattle.star_meaning.specs.Steps.{Action, pure, fail, given_or, charge, ◌>>=◌, ◌>>◌}
-use Rattle.star_meaning.specs.Values.{is_true, items_of, charge_items, charge_weight, new_tuple, new_list, new_dict}
+use Rattle.star_meaning.specs.Values.{has, is_true, items_of, charge_items, charge_weight, new_tuple, new_list, new_dict}
 use Rattle.star_meaning.specs.Comparing.{compare, key_in}
 use Rattle.star_meaning.specs.Showing.{Naming}
 use Rattle.star_meaning.specs.Operators as operators
 use Rattle.star_meaning.specs.Operators.{Bounds, binary, unary, index, slice, unpacked}
 use Rattle.star_meaning.specs.Builtins.{ByName, call_builtin}
 use Rattle.star_meaning.specs.Methods.{call_method}
-use Rattle.star_meaning.specs.World.{Work, acting, seen, operation, operate, write, look_up, bind, unbound, distinct, in_block, locking, has, lock_of, turns}
+use Rattle.star_meaning.specs.World.{Work, acting, seen, operation, operate, write, look_up, bind, unbound, distinct, in_block, locking, lock_of, turns, without_first}
 
 -- What does not change while a cell runs: the functions of the cells, the cell, and the inputs.
 pub record Setting (C : Type 0) : Type 0 where
@@ -304,10 +304,6 @@ module _ {C : Type 0} (setting : Setting C) (call : Callee C) where
   abbrev pub input_name : Bool → List (Suffix (Meant C)) → Option (List ℕ)
   input_name true (suffix.Call given ∷ more) = lone_literal given.positional
   input_name _ _ = None
-
-  abbrev pub without_first : {A : Type 0} → List A → List A
-  without_first [] = []
-  without_first (x ∷ xs) = xs
 
   -- what is indexed or called, and the suffixes that follow it: `input(TEXT)` is one thing
   abbrev pub headed : Meant C → List (Suffix (Meant C)) → Option (List ℕ) → Work C Value × List (Suffix (Meant C))

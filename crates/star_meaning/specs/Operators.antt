@@ -3,7 +3,7 @@
 use Rattle.std.specs.Prelude.{ℕ, ◌+◌, ◌==◌, Bool, true, false, not, ◌&&◌, if◌then◌else◌, List, [], ◌∷◌, ◌++◌, length, Option, Some, None, is_some, option_map, option_and_then, ℤ, pos, negsuc, ◌+ℤ◌, ◌-ℤ◌, ◌*ℤ◌, neg_ℤ, int_lt, slice_get, slice_set}
 use Rattle.std.specs.Fmt.{signed_decimal}
 use Rattle.std.specs.Int.{int_bit_and, int_bit_or, int_bit_xor, int_bit_not, w128}
-use Rattle.std.specs.List.{filter_map, list_any, repeat}
+use Rattle.std.specs.List.{filter_map, repeat}
 use Rattle.star_syntax.specs.declared.operator.BinaryOp.{BinaryOp}
 use Rattle.star_syntax.specs.declared.operator.BinaryOp.TheVariants as op
 use Rattle.star_syntax.specs.declared.operator.UnaryOp.{UnaryOp}
@@ -20,7 +20,7 @@ use Rattle.star_value.specs.Format.{parts_of}
 use Rattle.star_value.specs.Ranges.{range_count}
 use Rattle.star_meaning.specs.State.{list, dict, dict_get, dict_put, with_list, with_dict}
 use Rattle.star_meaning.specs.Steps.{Action, pure, fail, given_or, read, change, ◌>>=◌, ◌>>◌}
-use Rattle.star_meaning.specs.Values.{integer, floor_of, rest_of, is_zero, times, place_of, clamped, integers_of, range_item, items_of, int_in, charge_items, charge_weight, new_list}
+use Rattle.star_meaning.specs.Values.{has, integer, floor_of, rest_of, is_zero, times, place_of, clamped, integers_of, range_item, items_of, int_in, charge_items, charge_weight, new_list}
 use Rattle.star_meaning.specs.Comparing.{key_in}
 use Rattle.star_meaning.specs.Showing.{Naming, quoted, shown, ◌<+>◌}
 
@@ -251,13 +251,9 @@ slice x bounds = do
 
 -- ---- changes of lists and dicts
 
--- whether a list or dict is iterated over
-abbrev pub is_locked : List ℕ → ℕ → Bool
-is_locked locked id = list_any (λ other. other == id) locked
-
 -- a list or dict that is iterated over is not changed
 unfoldable pub check_unlocked : {C : Type 0} → List ℕ → ℕ → Action C (Unit {0})
-check_unlocked locked id = if is_locked locked id then fail failure.ChangedWhileIterated else pure tt
+check_unlocked locked id = if has locked id then fail failure.ChangedWhileIterated else pure tt
 
 abbrev pub store_item : {C : Type 0} → List ℕ → ℕ → ℤ → Value → Action C (Unit {0})
 store_item locked id z v = do

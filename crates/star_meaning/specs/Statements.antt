@@ -93,9 +93,10 @@ abbrev pub for_turns : {C : Type 0} → (Value → Course C (Unit {0})) → Cour
 for_turns next body [] = pure flow.On
 for_turns next body (x ∷ xs) = next x >> body >>= after_turn (for_turns next body xs)
 
--- What a statement does: whether it is the cell's last one, and how many functions the cell defines before it.
+-- What a statement does: whether it is the cell's last one, and its number among the cell's functions where it stands
+-- directly in the cell.
 abbrev pub Doing : Type 0 → Type 0
-Doing C = Bool → ℕ → Course C Flow
+Doing C = Bool → Option ℕ → Course C Flow
 
 module _ {C : Type 0} (setting : Setting C) (call : Callee C) where
   abbrev pub all_meant : List Expr → List (Meant C)
@@ -145,9 +146,14 @@ module _ {C : Type 0} (setting : Setting C) (call : Callee C) where
 
   -- ---- statements with blocks
 
+  -- the statements in a block, of which each does this
+  abbrev pub each_of : {S : Type 0} → (S → Course C Flow) → Block S → Course C Flow
+  each_of run (blocks.Inline line) = line_of false line
+  each_of run (blocks.Indented all) = in_order (λ last s. run s) false all
+
+  -- no statement in a block is the cell's last one, or has a number
   abbrev pub block_of : Block (Doing C) → Course C Flow
-  block_of (blocks.Inline line) = line_of false line
-  block_of (blocks.Indented all) = in_order (λ last s. s false 0) false all
+  block_of = each_of (λ s. s false None)
 
   abbrev pub else_of : Option (Block (Doing C)) → Course C Flow
   else_of None = pure flow.On
@@ -187,14 +193,14 @@ module _ {C : Type 0} (setting : Setting C) (call : Callee C) where
   layer_of (Statement-F.If at first more other) last number = located at (acting (charge 1)) >> branches_of at (first ∷ more) other
   layer_of (Statement-F.For at targets over body) last number =
       located at (acting (charge 1) >> iterated over) >>= repeated at targets (block_of body)
-  layer_of (Statement-F.Def at def) last number = located at (then_on (acting (charge 1) >> defined def number))
+  layer_of (Statement-F.Def at def) last None = located at (then_on (acting (charge 1)))
+  layer_of (Statement-F.Def at def) last (Some number) = located at (then_on (acting (charge 1) >> defined def number))
 
   unfoldable pub statement_of : Statement → Doing C
   statement_of = fold-Statement (Doing C) layer_of
 
   abbrev pub body_of : Block Statement → Course C Flow
-  body_of (blocks.Inline line) = line_of false line
-  body_of (blocks.Indented all) = in_order (λ last s. statement_of s false 0) false all
+  body_of = each_of (λ s. statement_of s false None)
 
 -- ---- calls of functions
 

@@ -1,6 +1,6 @@
 -- Values: truth, what they give when they are iterated, integers of 128 bits, names of types and built-in functions.
 use Rattle.std.specs.Prelude.{ℕ, zero, suc, ◌-◌, ◌^◌, ◌/◌, ◌==◌, nat_lt, Bool, true, false, not, ◌&&◌, if◌then◌else◌, List, [], ◌∷◌, map, Option, Some, None, option_map, ℤ, pos, negsuc, ◌+ℤ◌, ◌-ℤ◌, ◌*ℤ◌, int_lt, codes, bytes_eq}
-use Rattle.std.specs.List.{range_with_len}
+use Rattle.std.specs.List.{list_any, range_with_len}
 use Rattle.star_value.specs.declared.builtin.Builtin.{Builtin}
 use Rattle.star_value.specs.declared.builtin.Builtin.TheVariants as builtin
 use Rattle.star_value.specs.declared.key.Key.{Key}
@@ -19,6 +19,10 @@ use Rattle.star_meaning.specs.Steps.{Action, Steps, Went, pure, fail, given_or, 
 abbrev pub is_empty : {A : Type 0} → List A → Bool
 is_empty [] = true
 is_empty (x ∷ xs) = false
+
+-- whether an object's number is one of these
+abbrev pub has : List ℕ → ℕ → Bool
+has ids id = list_any (λ other. other == id) ids
 
 -- ---- integers
 

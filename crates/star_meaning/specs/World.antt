@@ -1,5 +1,5 @@
 -- What a running cell meets beside the state: its frame and what it has written.
-use Rattle.std.specs.Prelude.{ℕ, ◌-◌, ◌==◌, Bool, if◌then◌else◌, List, [], ◌∷◌, ◌++◌, map, Option, Some, None, option_map, is_some, bytes_eq}
+use Rattle.std.specs.Prelude.{ℕ, ◌-◌, Bool, if◌then◌else◌, List, [], ◌∷◌, ◌++◌, map, Option, Some, None, option_map, is_some, bytes_eq}
 use Rattle.std.specs.List.{list_any}
 use Rattle.star_value.specs.declared.failure.Failure.{Failure}
 use Rattle.star_value.specs.declared.failure.Failure.TheVariants as failure
@@ -139,15 +139,28 @@ distinct_after before (name ∷ names) =
 unfoldable pub distinct : List (List ℕ) → List (List ℕ)
 distinct names = distinct_after [] names
 
--- ---- a part of a frame for the time of some steps; it is put back where they do not fail
+-- ---- a part of a frame for the time of some steps, where they do not fail
 
+abbrev pub without_first : {A : Type 0} → List A → List A
+without_first [] = []
+without_first (x ∷ xs) = xs
+
+-- the frame without its innermost block
+abbrev pub without_block : Frame → Frame
+without_block f = record f { blocks = without_first f.blocks }
+
+abbrev pub left_block : {C E A : Type 0} → Outcome (World C) E A → Outcome (World C) E A
+left_block (Went a w) = Went a (with_frame (without_block w.frame) w)
+left_block (Failed e w) = Failed e w
+
+-- the steps in a block of these names, which goes when they end
+unfoldable pub in_block : {C A : Type 0} → Block → Work C A → Work C A
+in_block block p = λ w. left_block (p (with_frame (record w.frame { blocks = block ∷ w.frame.blocks }) w))
+
+-- the frame that was there comes back
 abbrev pub put_back : {C E A : Type 0} → Frame → Outcome (World C) E A → Outcome (World C) E A
 put_back f (Went a w) = Went a (with_frame f w)
 put_back f (Failed e w) = Failed e w
-
--- the steps in a block of these names
-unfoldable pub in_block : {C A : Type 0} → Block → Work C A → Work C A
-in_block block p = λ w. put_back w.frame (p (with_frame (record w.frame { blocks = block ∷ w.frame.blocks }) w))
 
 -- the steps while these lists and dicts are locked; what the steps bind stays
 abbrev pub unlocked : {C E A : Type 0} → List ℕ → Outcome (World C) E A → Outcome (World C) E A
@@ -160,9 +173,6 @@ locking ids p = λ w. unlocked w.frame.locked (p (with_frame (record w.frame { l
 -- the steps of a function's body: its own block, the function active
 unfoldable pub in_function : {C A : Type 0} → ℕ → Block → Work C A → Work C A
 in_function id block p = λ w. put_back w.frame (p (with_frame (record { blocks = block ∷ []; active = w.frame.active ++ id ∷ []; locked = w.frame.locked }) w))
-
-abbrev pub has : List ℕ → ℕ → Bool
-has ids id = list_any (λ other. other == id) ids
 
 -- ---- iteration
 

@@ -1,7 +1,7 @@
 -- The longer cells, statement by statement.
 use Rattle.std.proofs.Common.{◌≡◌, ℕ, zero, suc, ◌+◌, ◌-◌, pos, List, [], ◌∷◌, refl, arith}
 use Rattle.std.proofs.lemmas.Bool.Decides.{nat_tests}
-use Rattle.std.specs.Prelude.{true, false, nat_lt, codes}
+use Rattle.std.specs.Prelude.{Some, None, true, false, nat_lt, codes}
 use Rattle.star_meaning.proofs.Equations.{layers, out_list, values_shown, statement_line, meant_primary, statement_for, meant_name, out_dict, weight_dict, weight_text, value_text, def_line, def_for}
 use Rattle.star_meaning.specs.State.{object, list}
 use Rattle.star_meaning.specs.Steps.{charge}
@@ -38,30 +38,30 @@ abbrev total_is : ℕ → List ℕ × Value
 total_is n = (codes "total", value.Int (pos n))
 
 module _ (st : Setting CellParts) (call : Callee CellParts) where
-  dict_made : statement_of st call sales_made false 0 (at [] [] [] [] 999999) ≡ Went flow.On (at (sales_is ∷ []) (ADict pairs ∷ []) [] [] 999971)
+  dict_made : statement_of st call sales_made false (Some 0) (at [] [] [] [] 999999) ≡ Went flow.On (at (sales_is ∷ []) (ADict pairs ∷ []) [] [] 999971)
   unfolding evaluation
   dict_made = simp layers
 
-  total_zero : statement_of st call total_made false 0 (at (sales_is ∷ []) (ADict pairs ∷ []) [] [] 999971) ≡ Went flow.On (at (sales_is ∷ total_is 0 ∷ []) (ADict pairs ∷ []) [] [] 999969)
+  total_zero : statement_of st call total_made false (Some 0) (at (sales_is ∷ []) (ADict pairs ∷ []) [] [] 999971) ≡ Went flow.On (at (sales_is ∷ total_is 0 ∷ []) (ADict pairs ∷ []) [] [] 999969)
   unfolding evaluation
   total_zero = simp layers
 
-  north : statement_of st call total_raised false 0 (at ((codes "k", value.Text (codes "north")) ∷ sales_is ∷ total_is 0 ∷ []) (ADict pairs ∷ []) (0 ∷ []) [] 999961)
+  north : statement_of st call total_raised false None (at ((codes "k", value.Text (codes "north")) ∷ sales_is ∷ total_is 0 ∷ []) (ADict pairs ∷ []) (0 ∷ []) [] 999961)
       ≡ Went flow.On (at ((codes "k", value.Text (codes "north")) ∷ sales_is ∷ total_is 3 ∷ []) (ADict pairs ∷ []) (0 ∷ []) [] 999944)
   unfolding evaluation
   north = simp layers
 
-  south : statement_of st call total_raised false 0 (at ((codes "k", value.Text (codes "south")) ∷ sales_is ∷ total_is 3 ∷ []) (ADict pairs ∷ []) (0 ∷ []) [] 999938)
+  south : statement_of st call total_raised false None (at ((codes "k", value.Text (codes "south")) ∷ sales_is ∷ total_is 3 ∷ []) (ADict pairs ∷ []) (0 ∷ []) [] 999938)
       ≡ Went flow.On (at ((codes "k", value.Text (codes "south")) ∷ sales_is ∷ total_is 8 ∷ []) (ADict pairs ∷ []) (0 ∷ []) [] 999921)
   unfolding evaluation
   south = simp layers
 
-  added : statement_of st call sales_added false 0 (at (sales_is ∷ total_is 0 ∷ []) (ADict pairs ∷ []) [] [] 999969)
+  added : statement_of st call sales_added false (Some 0) (at (sales_is ∷ total_is 0 ∷ []) (ADict pairs ∷ []) [] [] 999969)
       ≡ Went flow.On (at ((codes "k", value.Text (codes "south")) ∷ sales_is ∷ total_is 8 ∷ []) (ADict pairs ∷ []) [] [] 999921)
   unfolding evaluation
   added = simp (statement_for, north, south, meant_name, out_dict, weight_dict, weight_text, value_text)
 
-  shown_last : statement_of st call total_shown true 0 (at ((codes "k", value.Text (codes "south")) ∷ sales_is ∷ total_is 8 ∷ []) (ADict pairs ∷ []) [] [] 999921)
+  shown_last : statement_of st call total_shown true (Some 0) (at ((codes "k", value.Text (codes "south")) ∷ sales_is ∷ total_is 8 ∷ []) (ADict pairs ∷ []) [] [] 999921)
       ≡ Went flow.On (at ((codes "k", value.Text (codes "south")) ∷ sales_is ∷ total_is 8 ∷ []) (ADict pairs ∷ []) [] (codes "8\n") 999917)
   unfolding evaluation
   shown_last = simp layers
@@ -102,27 +102,27 @@ module _ (st : Setting CellParts) (call : Callee CellParts) where
   unfolding evaluation
   less_is = simp layers
 
-  all_is : statement_of st call all_printed true 0 (at [] [] [] [] 999999) ≡ Went flow.On (at [] (AList (value.Text (codes "a") ∷ value.Text (codes "b") ∷ []) ∷ AList (value.Text (codes "a") ∷ value.Text (codes "b") ∷ []) ∷ AList (value.Text (codes "a") ∷ value.Text (codes "b") ∷ []) ∷ ADict [] ∷ []) [] (codes "[\"a\", \"b\"] [\"a\", \"b\"] a,b cbc x 1 (2, 3) 1 True\n") 999840)
+  all_is : statement_of st call all_printed true (Some 0) (at [] [] [] [] 999999) ≡ Went flow.On (at [] (AList (value.Text (codes "a") ∷ value.Text (codes "b") ∷ []) ∷ AList (value.Text (codes "a") ∷ value.Text (codes "b") ∷ []) ∷ AList (value.Text (codes "a") ∷ value.Text (codes "b") ∷ []) ∷ ADict [] ∷ []) [] (codes "[\"a\", \"b\"] [\"a\", \"b\"] a,b cbc x 1 (2, 3) 1 True\n") 999840)
   unfolding evaluation
   all_is = simp (words_is, fields_is, joined_is, replaced_is, stripped_text_is, formatted_text_is, rest_is, popped_is, less_is, statement_line, meant_primary st call (name (codes "print")), meant_name st call (codes "print"), values_shown)
 
-  x_made_is : statement_of st call x_made false 0 (at [] [] [] [] 999999) ≡ Went flow.On (at ((codes "x", value.List 0) ∷ []) (AList (value.Int (pos 1) ∷ []) ∷ []) [] [] 999996)
+  x_made_is : statement_of st call x_made false (Some 0) (at [] [] [] [] 999999) ≡ Went flow.On (at ((codes "x", value.List 0) ∷ []) (AList (value.Int (pos 1) ∷ []) ∷ []) [] [] 999996)
   unfolding evaluation
   x_made_is = simp layers
 
-  y_made_is : statement_of st call y_made false 0 (at ((codes "x", value.List 0) ∷ []) (AList (value.Int (pos 1) ∷ []) ∷ []) [] [] 999996) ≡ Went flow.On (at ((codes "x", value.List 0) ∷ (codes "y", value.List 0) ∷ []) (AList (value.Int (pos 1) ∷ []) ∷ []) [] [] 999994)
+  y_made_is : statement_of st call y_made false (Some 0) (at ((codes "x", value.List 0) ∷ []) (AList (value.Int (pos 1) ∷ []) ∷ []) [] [] 999996) ≡ Went flow.On (at ((codes "x", value.List 0) ∷ (codes "y", value.List 0) ∷ []) (AList (value.Int (pos 1) ∷ []) ∷ []) [] [] 999994)
   unfolding evaluation
   y_made_is = simp layers
 
-  x_extended_is : statement_of st call x_extended false 0 (at ((codes "x", value.List 0) ∷ (codes "y", value.List 0) ∷ []) (AList (value.Int (pos 1) ∷ []) ∷ []) [] [] 999994) ≡ Went flow.On (at ((codes "x", value.List 0) ∷ (codes "y", value.List 0) ∷ []) (AList (value.Int (pos 1) ∷ value.Int (pos 2) ∷ []) ∷ AList (value.Int (pos 2) ∷ []) ∷ []) [] [] 999988)
+  x_extended_is : statement_of st call x_extended false (Some 0) (at ((codes "x", value.List 0) ∷ (codes "y", value.List 0) ∷ []) (AList (value.Int (pos 1) ∷ []) ∷ []) [] [] 999994) ≡ Went flow.On (at ((codes "x", value.List 0) ∷ (codes "y", value.List 0) ∷ []) (AList (value.Int (pos 1) ∷ value.Int (pos 2) ∷ []) ∷ AList (value.Int (pos 2) ∷ []) ∷ []) [] [] 999988)
   unfolding evaluation
   x_extended_is = simp layers
 
-  x_joined_is : statement_of st call x_joined false 0 (at ((codes "x", value.List 0) ∷ (codes "y", value.List 0) ∷ []) (AList (value.Int (pos 1) ∷ value.Int (pos 2) ∷ []) ∷ AList (value.Int (pos 2) ∷ []) ∷ []) [] [] 999988) ≡ Went flow.On (at ((codes "x", value.List 3) ∷ (codes "y", value.List 0) ∷ []) (AList (value.Int (pos 1) ∷ value.Int (pos 2) ∷ []) ∷ AList (value.Int (pos 2) ∷ []) ∷ AList (value.Int (pos 3) ∷ []) ∷ AList (value.Int (pos 1) ∷ value.Int (pos 2) ∷ value.Int (pos 3) ∷ []) ∷ []) [] [] 999980)
+  x_joined_is : statement_of st call x_joined false (Some 0) (at ((codes "x", value.List 0) ∷ (codes "y", value.List 0) ∷ []) (AList (value.Int (pos 1) ∷ value.Int (pos 2) ∷ []) ∷ AList (value.Int (pos 2) ∷ []) ∷ []) [] [] 999988) ≡ Went flow.On (at ((codes "x", value.List 3) ∷ (codes "y", value.List 0) ∷ []) (AList (value.Int (pos 1) ∷ value.Int (pos 2) ∷ []) ∷ AList (value.Int (pos 2) ∷ []) ∷ AList (value.Int (pos 3) ∷ []) ∷ AList (value.Int (pos 1) ∷ value.Int (pos 2) ∷ value.Int (pos 3) ∷ []) ∷ []) [] [] 999980)
   unfolding evaluation
   x_joined_is = simp layers
 
-  both_printed_is : statement_of st call both_printed true 0 (at ((codes "x", value.List 3) ∷ (codes "y", value.List 0) ∷ []) (AList (value.Int (pos 1) ∷ value.Int (pos 2) ∷ []) ∷ AList (value.Int (pos 2) ∷ []) ∷ AList (value.Int (pos 3) ∷ []) ∷ AList (value.Int (pos 1) ∷ value.Int (pos 2) ∷ value.Int (pos 3) ∷ []) ∷ []) [] [] 999980) ≡ Went flow.On (at ((codes "x", value.List 3) ∷ (codes "y", value.List 0) ∷ []) (AList (value.Int (pos 1) ∷ value.Int (pos 2) ∷ []) ∷ AList (value.Int (pos 2) ∷ []) ∷ AList (value.Int (pos 3) ∷ []) ∷ AList (value.Int (pos 1) ∷ value.Int (pos 2) ∷ value.Int (pos 3) ∷ []) ∷ []) [] (codes "[1, 2, 3] [1, 2]\n") 999958)
+  both_printed_is : statement_of st call both_printed true (Some 0) (at ((codes "x", value.List 3) ∷ (codes "y", value.List 0) ∷ []) (AList (value.Int (pos 1) ∷ value.Int (pos 2) ∷ []) ∷ AList (value.Int (pos 2) ∷ []) ∷ AList (value.Int (pos 3) ∷ []) ∷ AList (value.Int (pos 1) ∷ value.Int (pos 2) ∷ value.Int (pos 3) ∷ []) ∷ []) [] [] 999980) ≡ Went flow.On (at ((codes "x", value.List 3) ∷ (codes "y", value.List 0) ∷ []) (AList (value.Int (pos 1) ∷ value.Int (pos 2) ∷ []) ∷ AList (value.Int (pos 2) ∷ []) ∷ AList (value.Int (pos 3) ∷ []) ∷ AList (value.Int (pos 1) ∷ value.Int (pos 2) ∷ value.Int (pos 3) ∷ []) ∷ []) [] (codes "[1, 2, 3] [1, 2]\n") 999958)
   unfolding evaluation
   both_printed_is = simp layers
 

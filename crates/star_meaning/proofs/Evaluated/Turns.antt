@@ -1,6 +1,6 @@
 -- Comprehensions and loops, turn by turn.
 use Rattle.std.proofs.Common.{◌≡◌, ℕ, pos, List, [], ◌∷◌, ◌++◌, refl, ap}
-use Rattle.std.specs.Prelude.{Some, true, false, codes}
+use Rattle.std.specs.Prelude.{Some, None, true, false, codes}
 use Rattle.star_meaning.proofs.Equations.{layers, statement_line, statement_for, meant_listover, meant_dictover, meant_name, same_text, out_key_text, values_shown, def_for}
 use Rattle.star_meaning.specs.State.{dict_put}
 use Rattle.star_meaning.specs.World.{bind}
@@ -133,23 +133,23 @@ module _ (st : Setting CellParts) (call : Callee CellParts) where
   unfolding evaluation
   sums_made = simp (pair_made, both_made, meant_listover st call both (clause.For (name (codes "a") ∷ name (codes "b") ∷ []) one_pair ∷ []), meant_name st call (codes "a"), meant_name st call (codes "b"), values_shown)
 
-  first_0 : statement_of st call passed_over false 0 (at (i_is 0) [] 999994) ≡ Went flow.On (at (i_is 0) [] 999989)
+  first_0 : statement_of st call passed_over false None (at (i_is 0) [] 999994) ≡ Went flow.On (at (i_is 0) [] 999989)
   unfolding evaluation
   first_0 = simp layers
 
-  second_0 : statement_of st call broken_off false 0 (at (i_is 0) [] 999989) ≡ Went flow.On (at (i_is 0) [] 999984)
+  second_0 : statement_of st call broken_off false None (at (i_is 0) [] 999989) ≡ Went flow.On (at (i_is 0) [] 999984)
   unfolding evaluation
   second_0 = simp layers
 
-  first_1 : statement_of st call passed_over false 0 (at (i_is 1) [] 999983) ≡ Went flow.Continue (at (i_is 1) [] 999977)
+  first_1 : statement_of st call passed_over false None (at (i_is 1) [] 999983) ≡ Went flow.Continue (at (i_is 1) [] 999977)
   unfolding evaluation
   first_1 = simp layers
 
-  first_2 : statement_of st call passed_over false 0 (at (i_is 2) [] 999976) ≡ Went flow.On (at (i_is 2) [] 999971)
+  first_2 : statement_of st call passed_over false None (at (i_is 2) [] 999976) ≡ Went flow.On (at (i_is 2) [] 999971)
   unfolding evaluation
   first_2 = simp layers
 
-  second_2 : statement_of st call broken_off false 0 (at (i_is 2) [] 999971) ≡ Went flow.Break (at (i_is 2) [] 999965)
+  second_2 : statement_of st call broken_off false None (at (i_is 2) [] 999971) ≡ Went flow.Break (at (i_is 2) [] 999965)
   unfolding evaluation
   second_2 = simp layers
 
@@ -157,24 +157,24 @@ module _ (st : Setting CellParts) (call : Callee CellParts) where
   unfolding evaluation
   range_made = simp layers
 
-  counted_off : statement_of st call counted false 0 (at [] [] 999999) ≡ Went flow.On (at (i_is 2) [] 999965)
+  counted_off : statement_of st call counted false (Some 0) (at [] [] 999999) ≡ Went flow.On (at (i_is 2) [] 999965)
   unfolding evaluation
   counted_off = simp (first_0, second_0, first_1, first_2, second_2, range_made, statement_for, meant_name st call (codes "i"), values_shown)
 
-  i_is_shown : statement_of st call i_shown true 0 (at (i_is 2) [] 999965) ≡ Went flow.On (at (i_is 2) (codes "2\n") 999961)
+  i_is_shown : statement_of st call i_shown true (Some 0) (at (i_is 2) [] 999965) ≡ Went flow.On (at (i_is 2) (codes "2\n") 999961)
   unfolding evaluation
   i_is_shown = simp layers
 
   -- a statement that is one expression, whose value is known
-  shown_squares : statement_of st call (line 1 (small.Tests (squares ∷ []))) true 0 (inside [] [] [] 999999) ≡ Went flow.On (record (inside [] (three ++ AList (value.Int (pos 1) ∷ value.Int (pos 9) ∷ []) ∷ []) [] 999965) { out = codes "[1, 9]\n" })
+  shown_squares : statement_of st call (line 1 (small.Tests (squares ∷ []))) true (Some 0) (inside [] [] [] 999999) ≡ Went flow.On (record (inside [] (three ++ AList (value.Int (pos 1) ∷ value.Int (pos 9) ∷ []) ∷ []) [] 999965) { out = codes "[1, 9]\n" })
   unfolding evaluation
   shown_squares = simp (squares_made, statement_line, values_shown)
 
-  shown_zeros : statement_of st call (line 1 (small.Tests (zeros ∷ []))) true 0 (inside [] [] [] 999999) ≡ Went flow.On (record (inside [] (three_letters ++ ADict ((key.Text (codes "a"), value.Int (pos 0)) ∷ (key.Text (codes "b"), value.Int (pos 0)) ∷ []) ∷ []) [] 999952) { out = codes "{\"a\": 0, \"b\": 0}\n" })
+  shown_zeros : statement_of st call (line 1 (small.Tests (zeros ∷ []))) true (Some 0) (inside [] [] [] 999999) ≡ Went flow.On (record (inside [] (three_letters ++ ADict ((key.Text (codes "a"), value.Int (pos 0)) ∷ (key.Text (codes "b"), value.Int (pos 0)) ∷ []) ∷ []) [] 999952) { out = codes "{\"a\": 0, \"b\": 0}\n" })
   unfolding evaluation
   shown_zeros = simp (zeros_made, statement_line, values_shown)
 
-  shown_sums : statement_of st call (line 1 (small.Tests (sums ∷ []))) true 0 (inside [] [] [] 999999) ≡ Went flow.On (record (inside [] (tuple_in_list ++ AList (value.Int (pos 3) ∷ []) ∷ []) [] 999979) { out = codes "[3]\n" })
+  shown_sums : statement_of st call (line 1 (small.Tests (sums ∷ []))) true (Some 0) (inside [] [] [] 999999) ≡ Went flow.On (record (inside [] (tuple_in_list ++ AList (value.Int (pos 3) ∷ []) ∷ []) [] 999979) { out = codes "[3]\n" })
   unfolding evaluation
   shown_sums = simp (sums_made, statement_line, values_shown)
 
