@@ -343,7 +343,7 @@ chain_by l (Expr-F.Signed _ _) h = absurd (let b = rank_few l in omega arith)
 chain_by l (Expr-F.Chain k first links) h = (first, links, ap (λ v. Expr-F.Chain v first links) (rank_one k l h))
 chain_by l (Expr-F.Compare _ _ _) h = absurd (let b = rank_few l in omega arith)
 chain_by l (Expr-F.Not _ _) h = absurd (let b = rank_few l in omega arith)
-chain_by l (Expr-F.Conditional _ _ _) h = absurd (let b = rank_few l in omega arith)
+chain_by l (Expr-F.Conditional _ _) h = absurd (let b = rank_few l in omega arith)
 
 whole_back : (l : ChainLevel) (x : Expr) (c : Input) → IsExpr (chain_rank l) x c → Whole l x c
 whole_back l x c r = elim (dec_lt (chain_rank l) (rank x)) [

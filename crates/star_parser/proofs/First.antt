@@ -51,7 +51,9 @@ node_starts (Expr-F.Chain l first links) fits held each = goes_on _ (rank first)
 node_starts (Expr-F.Compare left op right) fits held each = goes_on 4 (rank left) _ _ (omega (arith, fits.0)) (each.0 held.0)
 node_starts (Expr-F.Not zero operand) fits held each = absurd (omega (arith, fits.1))
 node_starts (Expr-F.Not (suc n) operand) fits held each = record { first = t.Word w.Not; others = _; whole = refl; starts_it = omega arith }
-node_starts (Expr-F.Conditional value condition other) fits held each = goes_on 0 (rank value) _ _ (omega arith) (each.0 held.0)
+node_starts (Expr-F.Conditional [] last) fits held each = absurd (fits.0 refl)
+node_starts (Expr-F.Conditional (arm ∷ arms) last) fits held each =
+    goes_on 0 0 _ _ (omega arith) (goes_on 0 0 _ _ (omega arith) (goes_on 0 (rank arm.value) _ _ (omega arith) (each.0.0.0 held.0.0.0)))
 
 pub expr_starts : (x : Expr) → IsLevelled x → StartsAt (rank x) (expr_spelling x)
 expr_starts = induct (λ x. IsLevelled x → StartsAt (rank x) (expr_spelling x)) (λ d each levelled.

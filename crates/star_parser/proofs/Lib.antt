@@ -15,6 +15,7 @@ pub mod Closing
 pub mod Chains
 pub mod Prefixes
 pub mod Operators
+pub mod Conditionals
 pub mod Arguments
 pub mod Suffixes
 pub mod Whole

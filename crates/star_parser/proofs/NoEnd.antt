@@ -13,6 +13,7 @@ use Rattle.star_syntax.specs.declared.operator.CompareOp.TheVariants as cmp
 use Rattle.star_syntax.specs.declared.expression.ChainOp.{ChainOp}
 use Rattle.star_syntax.specs.declared.expression.ChainOp.TheVariants as op
 use Rattle.star_syntax.specs.declared.expression.Link.{Link}
+use Rattle.star_syntax.specs.declared.expression.Arm.{Arm}
 use Rattle.star_syntax.specs.declared.expression.Pair.{Pair}
 use Rattle.star_syntax.specs.declared.expression.Arguments.{Arguments}
 use Rattle.star_syntax.specs.declared.expression.Clause.{Clause}
@@ -22,8 +23,8 @@ use Rattle.star_syntax.specs.declared.expression.Suffix.TheVariants.{Index, Slic
 use Rattle.star_syntax.specs.declared.expression.Expr.{Expr}
 use Rattle.star_syntax.specs.declared.expression.Expr.TheOpen.{Expr-F}
 use Rattle.star_syntax.specs.Spelling.{Tokens, expr_spelling, tests_spelling, default_spelling, listed, sign_token, chain_token, compare_tokens, if_written}
-use Rattle.star_syntax.specs.SpellingOfParts.{parts_spelling, optional_spelling, expr_step_spelling, expr_suffix_spelling, expr_arguments_spelling, expr_link_spelling, expr_clause_spelling, expr_pair_spelling}
-use Rattle.star_syntax.proofs.Levelled.{Each, EachOption, EachStep, EachArgument, EachSuffix, EachClause, EachPair, EachLink, induct}
+use Rattle.star_syntax.specs.SpellingOfParts.{parts_spelling, optional_spelling, expr_step_spelling, expr_suffix_spelling, expr_arguments_spelling, expr_link_spelling, expr_arm_spelling, expr_clause_spelling, expr_pair_spelling}
+use Rattle.star_syntax.proofs.Levelled.{Each, EachOption, EachStep, EachArgument, EachSuffix, EachClause, EachPair, EachLink, EachArm, induct}
 use Rattle.star_syntax.proofs.SpellingLemmas.{spells_parts}
 
 -- the token stands in some expression
@@ -151,6 +152,10 @@ link : (x : Link Expr) → EachLink Clean x → Within (expr_link_spelling x)
 unfolding Clean
 link x h = (chain x.op, h)
 
+arm : (x : Arm Expr) → EachArm Clean x → Within (expr_arm_spelling x)
+unfolding Clean
+arm x h = joined (expr_spelling x.value) _ h.0 (refl, joined (expr_spelling x.condition) _ h.1 (refl, tt))
+
 signs : (xs : List UnaryOp) → Within (map sign_token xs)
 signs [] = tt
 signs (sign.Plus ∷ xs) = (refl, signs xs)
@@ -199,7 +204,7 @@ node (Expr-F.Signed xs operand) h = joined (map sign_token xs) _ (signs xs) h
 node (Expr-F.Chain l first xs) h = joined (expr_spelling first) _ h.0 (flat_within (EachLink Clean) expr_link_spelling link xs h.1)
 node (Expr-F.Compare left o right) h = joined (expr_spelling left) _ h.0 (joined (compare_tokens o) _ (compare o) h.1)
 node (Expr-F.Not n operand) h = joined (replicate n (t.Word w.Not)) _ (nots n) h
-node (Expr-F.Conditional value condition other) h = joined (expr_spelling value) _ h.0 (refl, joined (expr_spelling condition) _ h.1 (refl, h.2))
+node (Expr-F.Conditional xs last) h = joined (flat_map expr_arm_spelling xs) _ (flat_within (EachArm Clean) expr_arm_spelling arm xs h.0) h.1
 
 -- ---- whole expressions
 

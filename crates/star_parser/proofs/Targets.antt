@@ -5,6 +5,7 @@ use Rattle.star_syntax.specs.declared.operator.UnaryOp.{UnaryOp}
 use Rattle.star_syntax.specs.declared.operator.CompareOp.{CompareOp}
 use Rattle.star_syntax.specs.declared.expression.ChainLevel.{ChainLevel}
 use Rattle.star_syntax.specs.declared.expression.Link.{Link}
+use Rattle.star_syntax.specs.declared.expression.Arm.{Arm}
 use Rattle.star_syntax.specs.declared.expression.Pair.{Pair}
 use Rattle.star_syntax.specs.declared.expression.Clause.{Clause}
 use Rattle.star_syntax.specs.declared.expression.Suffix.{Suffix}
@@ -97,8 +98,8 @@ target-Compare left o right = ap is_target (sym (e.rolls-Compare left o right)) 
 pub target-Not : (count : ℕ) (operand : Expr) → is_target (e.Not count operand) ≡ false
 target-Not count operand = ap is_target (sym (e.rolls-Not count operand)) ∙ at_layer (Expr-F.Not count operand)
 
-pub target-Conditional : (value condition other : Expr) → is_target (e.Conditional value condition other) ≡ false
-target-Conditional value condition other = ap is_target (sym (e.rolls-Conditional value condition other)) ∙ at_layer (Expr-F.Conditional value condition other)
+pub target-Conditional : (arms : List (Arm Expr)) (last : Expr) → is_target (e.Conditional arms last) ≡ false
+target-Conditional arms last = ap is_target (sym (e.rolls-Conditional arms last)) ∙ at_layer (Expr-F.Conditional arms last)
 
 pub ruleset targets = (target-Name, target-Int, target-Text, target-None, target-True, target-False, target-Paren, target-Tuple, target-List, target-ListOver, target-Dict, target-DictOver, target-Primary, target-Signed, target-Chain, target-Compare, target-Not, target-Conditional)
 
@@ -172,9 +173,9 @@ pub place-Not : (count : ℕ) (operand : Expr) → is_place (e.Not count operand
 unfolding is_place
 place-Not count operand = ap is_place (sym (e.rolls-Not count operand)) ∙ ap layer_is_place (out-roll-Expr (Expr-F.Not count operand))
 
-pub place-Conditional : (value condition other : Expr) → is_place (e.Conditional value condition other) ≡ false
+pub place-Conditional : (arms : List (Arm Expr)) (last : Expr) → is_place (e.Conditional arms last) ≡ false
 unfolding is_place
-place-Conditional value condition other = ap is_place (sym (e.rolls-Conditional value condition other)) ∙ ap layer_is_place (out-roll-Expr (Expr-F.Conditional value condition other))
+place-Conditional arms last = ap is_place (sym (e.rolls-Conditional arms last)) ∙ ap layer_is_place (out-roll-Expr (Expr-F.Conditional arms last))
 
 pub ruleset places = (place-Name, place-Int, place-Text, place-None, place-True, place-False, place-Paren, place-Tuple, place-List, place-ListOver, place-Dict, place-DictOver, place-Primary, place-Signed, place-Chain, place-Compare, place-Not, place-Conditional)
 
@@ -248,9 +249,9 @@ pub name-Not : (count : ℕ) (operand : Expr) → name_of (e.Not count operand) 
 unfolding name_of
 name-Not count operand = ap name_of (sym (e.rolls-Not count operand)) ∙ ap layer_name (out-roll-Expr (Expr-F.Not count operand))
 
-pub name-Conditional : (value condition other : Expr) → name_of (e.Conditional value condition other) ≡ None
+pub name-Conditional : (arms : List (Arm Expr)) (last : Expr) → name_of (e.Conditional arms last) ≡ None
 unfolding name_of
-name-Conditional value condition other = ap name_of (sym (e.rolls-Conditional value condition other)) ∙ ap layer_name (out-roll-Expr (Expr-F.Conditional value condition other))
+name-Conditional arms last = ap name_of (sym (e.rolls-Conditional arms last)) ∙ ap layer_name (out-roll-Expr (Expr-F.Conditional arms last))
 
 pub ruleset names = (name-Name, name-Int, name-Text, name-None, name-True, name-False, name-Paren, name-Tuple, name-List, name-ListOver, name-Dict, name-DictOver, name-Primary, name-Signed, name-Chain, name-Compare, name-Not, name-Conditional)
 

@@ -9,7 +9,8 @@ use Rattle.star_parser.specs.Ends.{Ends, level_rank}
 use Rattle.star_parser.proofs.Exact.{Exact}
 use Rattle.star_parser.proofs.Rules.{IsExpr}
 use Rattle.star_parser.proofs.Chains.{chained_exact}
-use Rattle.star_parser.proofs.Operators.{compare_exact, test_exact}
+use Rattle.star_parser.proofs.Operators.{compare_exact}
+use Rattle.star_parser.proofs.Conditionals.{test_exact}
 use Rattle.star_parser.proofs.Prefixes.{unary_exact, negated_exact}
 use Rattle.star_parser.proofs.Suffixes.{primary_exact}
 use Rattle.star_parser.proofs.Atoms.{atom_exact}
@@ -31,8 +32,7 @@ expr_exact zero level.Sum ts enough = absurd (omega arith)
 expr_exact zero level.Product ts enough = absurd (omega arith)
 expr_exact zero level.Unary ts enough = absurd (omega arith)
 expr_exact zero level.Primary ts enough = absurd (omega arith)
-expr_exact (suc n) level.Test ts enough =
-    test_exact (expr n) (length ts) (λ ts' few. expr_exact n level.Or ts' (omega arith)) (λ ts' few. expr_exact n level.Test ts' (omega arith)) ts (omega arith)
+expr_exact (suc n) level.Test ts enough = test_exact (expr n) (length ts) (λ ts' few. expr_exact n level.Or ts' (omega arith)) ts (omega arith)
 expr_exact (suc n) level.Or ts enough = chained_exact (expr n) (length ts) chain.Or level.And refl (λ ts' few. expr_exact n level.And ts' (omega arith)) ts (omega arith)
 expr_exact (suc n) level.And ts enough = chained_exact (expr n) (length ts) chain.And level.Not refl (λ ts' few. expr_exact n level.Not ts' (omega arith)) ts (omega arith)
 expr_exact (suc n) level.Not ts enough = negated_exact (expr n) (length ts) (λ ts' few. expr_exact n level.Compare ts' (omega arith)) ts (omega arith)

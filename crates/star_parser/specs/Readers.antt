@@ -12,6 +12,7 @@ use Rattle.star_syntax.specs.declared.expression.ChainLevel.{ChainLevel}
 use Rattle.star_syntax.specs.declared.expression.ChainLevel.TheVariants as chain
 use Rattle.star_syntax.specs.declared.expression.ChainOp.{ChainOp}
 use Rattle.star_syntax.specs.declared.expression.Link.{Link}
+use Rattle.star_syntax.specs.declared.expression.Arm.{Arm}
 use Rattle.star_syntax.specs.declared.expression.Named.{Named}
 use Rattle.star_syntax.specs.declared.expression.Pair.{Pair}
 use Rattle.star_syntax.specs.declared.expression.Arguments.{Arguments}
@@ -37,6 +38,10 @@ with_suffixes head (x ∷ more) = e.Primary head (x ∷ more)
 abbrev pub with_links : ChainLevel → Expr → List (Link Expr) → Expr
 with_links l first [] = first
 with_links l first (x ∷ more) = e.Chain l first (x ∷ more)
+
+abbrev pub with_arms : List (Arm Expr) → Expr → Expr
+with_arms [] last = last
+with_arms (x ∷ more) last = e.Conditional (x ∷ more) last
 
 abbrev pub with_signs : List UnaryOp → Expr → Expr
 with_signs [] operand = operand
@@ -368,20 +373,28 @@ module _ (expr : Level → Reader Expr) where
     operand ← expr level.Compare
     pure (with_nots count operand)
 
-  -- after a value and `if`
-  unfoldable pub conditional : Expr → Reader Expr
-  conditional value = do
+  -- after `if`: the condition, and the value after `else`
+  unfoldable pub alternative : Reader (Expr × Expr)
+  alternative = do
     condition ← expr level.Or
     expect_word w.Else
-    other ← expr level.Test
-    pure (e.Conditional value condition other)
+    value ← expr level.Or
+    pure (condition, value)
+
+  -- after the arms that were found and a value. The number bounds the turns.
+  unfoldable pub arms_from : ℕ → List (Arm Expr) → Expr → Reader Expr
+  arms_from zero found value = pure (with_arms found value)
+  arms_from (suc n) found value = do
+    is_arm ← eat_word w.If
+    if is_arm then (do
+      other ← alternative
+      arms_from n (found ++ record { value = value; condition = other.0 } ∷ []) other.1) else pure (with_arms found value)
 
   -- a test: a conditional, or its value alone
   unfoldable pub whole_test : Reader Expr
   whole_test = do
     value ← expr level.Or
-    is_conditional ← eat_word w.If
-    if is_conditional then conditional value else pure value
+    (λ ts. arms_from (length ts) [] value ts)
 
   abbrev pub at : Level → Reader Expr
   at level.Test = whole_test

@@ -13,7 +13,7 @@ use crate::fault::Fault;
 use crate::level::Level;
 use crate::terms::Terms;
 use sqlite_items::Items;
-use star_syntax::{Block, Branch, Definition, Keyword, Mark, Module, Statement};
+use star_syntax::{Block, Branch, Definition, Keyword, Mark, Module, Statement, Statements};
 use std::alloc::Global;
 
 /// The rules over a reader of nested statements.
@@ -196,7 +196,9 @@ impl<G: Fn(Global, &mut Cursor<'_>, usize, usize) -> Result<Statement, Fault>> B
     {
         let statements = self.statements_of_cell(tokens)?;
         tokens.finish()?;
-        Ok(Module { statements })
+        Ok(Module {
+            statements: Statements::new(self.terms.alloc, statements)?,
+        })
     }
 }
 

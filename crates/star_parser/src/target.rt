@@ -38,7 +38,7 @@ pub fn is_place(tree: &Expr) -> bool
         | Expr::Chain(_, _, _)
         | Expr::Compare(_, _, _)
         | Expr::Not(_, _)
-        | Expr::Conditional(_, _, _) => false,
+        | Expr::Conditional(_, _) => false,
     }
 }
 
@@ -67,7 +67,7 @@ pub fn is_target(tree: &Expr) -> bool
         | Expr::Chain(_, _, _)
         | Expr::Compare(_, _, _)
         | Expr::Not(_, _)
-        | Expr::Conditional(_, _, _) => false,
+        | Expr::Conditional(_, _) => false,
     }
 }
 
@@ -108,6 +108,6 @@ pub fn name_or_self(tree: Expr) -> Result<Text, Expr>
         | Expr::Chain(_, _, _)
         | Expr::Compare(_, _, _)
         | Expr::Not(_, _)
-        | Expr::Conditional(_, _, _) => Err(tree),
+        | Expr::Conditional(_, _) => Err(tree),
     }
 }

@@ -11,7 +11,7 @@ use crate::fault::Fault;
 use crate::grammar::Grammar;
 use crate::level::Level;
 use sqlite_items::{Boxed, Items};
-use star_syntax::{ChainLevel, CompareOp, Expr, Keyword, Link, UnaryOp};
+use star_syntax::{Arm, ChainLevel, CompareOp, Expr, Keyword, Link, UnaryOp};
 use std::alloc::{AllocError, Global};
 
 impl<F: Fn(Global, &mut Cursor<'_>, usize, Level) -> Result<Expr, Fault>> Grammar<F> {
@@ -111,25 +111,35 @@ impl<F: Fn(Global, &mut Cursor<'_>, usize, Level) -> Result<Expr, Fault>> Gramma
         Ok(with_nots(self.alloc, count, operand)?)
     }
 
-    /// A nested expression of the level, in a box.
-    fn boxed(&self, tokens: &mut Cursor<'_>, level: Level) -> Result<Boxed<Expr>, Fault>
+    /// After `if`: the condition, and the value after `else`.
+    #[tactic(auto, unfolding(crate::specs::Readers::alternative))]
+    fn alternative(&self, tokens: &mut Cursor<'_>) -> Result<(Expr, Expr), Fault>
         requires { Nests self.now.depth (F.pre self.now.expr) (F.post self.now.expr) }
-        ensures { Reads (spec.expr self.now.depth level tokens.old.rest.now) result tokens.new.rest.now }
+        ensures { Reads (spec.alternative (spec.expr self.now.depth) tokens.old.rest.now) result tokens.new.rest.now }
     {
-        let inner = self.expr(tokens, level)?;
-        Ok(Boxed::new(self.alloc, inner)?)
+        let condition = self.expr(tokens, Level::Or)?;
+        tokens.expect_word(Keyword::Else)?;
+        let value = self.expr(tokens, Level::Or)?;
+        Ok((condition, value))
     }
 
-    /// After the value and `if`.
-    #[tactic(auto, unfolding(crate::specs::Readers::conditional))]
-    fn conditional(&self, tokens: &mut Cursor<'_>, value: Boxed<Expr>) -> Result<Expr, Fault>
+    /// After a value: each `if`, its condition and the value after its `else`.
+    #[tactic(auto, unfolding(crate::specs::Readers::arms_from))]
+    fn arms(&self, tokens: &mut Cursor<'_>, first: Expr) -> Result<Expr, Fault>
         requires { Nests self.now.depth (F.pre self.now.expr) (F.post self.now.expr) }
-        ensures { Reads (spec.conditional (spec.expr self.now.depth) value tokens.old.rest.now) result tokens.new.rest.now }
+        ensures { Reads (spec.arms_from (spec.expr self.now.depth) (length tokens.old.rest.now) [] first tokens.old.rest.now) result tokens.new.rest.now }
     {
-        let condition = self.boxed(tokens, Level::Or)?;
-        tokens.expect_word(Keyword::Else)?;
-        let other = self.boxed(tokens, Level::Test)?;
-        Ok(Expr::Conditional(value, condition, other))
+        let mut value = first;
+        let mut found = Items::new(self.alloc);
+        for _turn in 0..tokens.left() {
+            if !tokens.eat_word(Keyword::If) {
+                return Ok(with_arms(self.alloc, found, value)?);
+            }
+            let (condition, next) = self.alternative(tokens)?;
+            found.push(Arm { value, condition })?;
+            value = next;
+        }
+        Ok(with_arms(self.alloc, found, value)?)
     }
 
     /// A conditional, or its value alone.
@@ -139,12 +149,7 @@ impl<F: Fn(Global, &mut Cursor<'_>, usize, Level) -> Result<Expr, Fault>> Gramma
         ensures { Reads (spec.whole_test (spec.expr self.now.depth) tokens.old.rest.now) result tokens.new.rest.now }
     {
         let value = self.expr(tokens, Level::Or)?;
-        if tokens.eat_word(Keyword::If) {
-            let value = Boxed::new(self.alloc, value)?;
-            self.conditional(tokens, value)
-        } else {
-            Ok(value)
-        }
+        self.arms(tokens, value)
     }
 }
 
@@ -160,6 +165,15 @@ fn with_links(
         return Ok(first);
     }
     Ok(Expr::Chain(level, Boxed::new(alloc, first)?, found))
+}
+
+fn with_arms(alloc: Global, found: Items<Arm<Expr>>, last: Expr) -> Result<Expr, AllocError>
+    ensures { IfOk result (λ e. e ≡ spec.with_arms found last) }
+{
+    if found.is_empty() {
+        return Ok(last);
+    }
+    Ok(Expr::Conditional(found, Boxed::new(alloc, last)?))
 }
 
 fn with_signs(alloc: Global, signs: Items<UnaryOp>, operand: Expr) -> Result<Expr, AllocError>
