@@ -7,9 +7,12 @@ mod shapes;
 mod statement_shape;
 mod statements;
 
+ghost use Rattle.std.specs.Prelude.{◌≡◌, ◌+◌, ◌≤◌, IsTrue};
+ghost use Rattle.star_syntax.specs.Nesting as nesting;
+
 use self::notation::{row_of, tokens_of};
 use star_parser::{ParseFault, parse};
-use star_syntax::{Module, Spanned, Token, spell};
+use star_syntax::{Mark, Module, Spanned, Token, spell};
 use std::alloc::Global;
 use std::process::Abort;
 use std::test::Fail;
@@ -25,7 +28,40 @@ pub enum Answer {
     Other,
 }
 
-/// The tree of tokens, of which the last must be End.
+/// The open brackets and the open columns after one more token.
+fn after_token(token: &Token, brackets: usize, columns: usize) -> (usize, usize)
+    requires { brackets + columns ≤ 32 }
+    ensures { result ≡ nesting.after_token token.now (brackets, columns) }
+{
+    match token {
+        Token::Mark(Mark::OpenRound | Mark::OpenSquare | Mark::OpenCurly) => {
+            (brackets + 1, columns)
+        }
+        Token::Mark(Mark::CloseRound | Mark::CloseSquare | Mark::CloseCurly) => {
+            (brackets.saturating_sub(1), columns)
+        }
+        Token::Indent => (brackets, columns + 1),
+        Token::Dedent => (brackets, columns.saturating_sub(1)),
+        _ => (brackets, columns),
+    }
+}
+
+/// Whether at most 32 brackets and columns are open at each place.
+fn is_shallow(tokens: &[Spanned]) -> bool
+    ensures { IsTrue result → nesting.IsShallow tokens.now }
+{
+    let mut brackets = 0;
+    let mut columns = 0;
+    for spanned in tokens {
+        (brackets, columns) = after_token(&spanned.token, brackets, columns);
+        if brackets + columns > 32 {
+            return false;
+        }
+    }
+    true
+}
+
+/// The tree of tokens, of which the last must be End and at most 32 brackets and columns be open.
 pub fn read(alloc: Global, tokens: &[Spanned]) -> Result<Result<Module, ParseFault>, Fail> {
     let Some((last, _)) = tokens.split_last() else {
         return Err(Fail::from("no token"));
@@ -33,6 +69,9 @@ pub fn read(alloc: Global, tokens: &[Spanned]) -> Result<Result<Module, ParseFau
     let Token::End = &last.token else {
         return Err(Fail::from("no END"));
     };
+    if !is_shallow(tokens) {
+        return Err(Fail::from("nested too deep"));
+    }
     Ok(parse(alloc, tokens))
 }
 

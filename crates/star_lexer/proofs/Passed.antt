@@ -15,8 +15,8 @@ passed_short (c ∷ cs) = short_by (c == 13 && first cs == newline) c (passed_ov
 
 -- one turn of the loop
 pub passed_turn : (c : ℕ) (cs out all : Chars) (b : Bool) → (c == 13 && first cs == newline) ≡ b → out ++ passed_over (c ∷ cs) ≡ all → (out ++ cond b [] (c ∷ [])) ++ passed_over cs ≡ all
-passed_turn c cs out all true e told = append_assoc out [] (passed_over cs) ∙ ap (λ b. out ++ cond b (passed_over cs) (c ∷ passed_over cs)) (sym e) ∙ told
-passed_turn c cs out all false e told = append_assoc out (c ∷ []) (passed_over cs) ∙ ap (λ b. out ++ cond b (passed_over cs) (c ∷ passed_over cs)) (sym e) ∙ told
+passed_turn c cs out all true e same = append_assoc out [] (passed_over cs) ∙ ap (λ b. out ++ cond b (passed_over cs) (c ∷ passed_over cs)) (sym e) ∙ same
+passed_turn c cs out all false e same = append_assoc out (c ∷ []) (passed_over cs) ∙ ap (λ b. out ++ cond b (passed_over cs) (c ∷ passed_over cs)) (sym e) ∙ same
 
 cons_by : (b : Bool) (c : ℕ) (ys : Chars) (n : ℕ) → length ys ≡ n → length (cond b (c ∷ ys) ys) ≡ cond b (suc n) n
 cons_by true c ys n e = ap suc e
@@ -41,8 +41,8 @@ passed_lines (c ∷ cs) = lines_by (c == 13 && first cs == newline) c (passed_ov
 
 -- the same for a list that is known to have a first character
 pub passed_step : (left out all : Chars) (x : ℕ) (b : Bool) → 1 ≤ length left → x ≡ get_or left 0 x → (x == 13 && first (drop 1 left) == newline) ≡ b → out ++ passed_over left ≡ all → (out ++ cond b [] (x ∷ [])) ++ passed_over (drop 1 left) ≡ all
-passed_step [] out all x b some is e told = absurd (omega arith)
-passed_step (c ∷ cs) out all x b some is e told = passed_turn x cs out all b e (ap (λ x. out ++ passed_over (x ∷ cs)) is ∙ told)
+passed_step [] out all x b some is e same = absurd (omega arith)
+passed_step (c ∷ cs) out all x b some is e same = passed_turn x cs out all b e (ap (λ x. out ++ passed_over (x ∷ cs)) is ∙ same)
 
 pub passed_few : (text out source : Chars) → text ++ out ≡ passed_over source → length text ≤ length source
 passed_few text out source e = let l = ap length e in omega (arith, l, length-append text out, passed_short source)

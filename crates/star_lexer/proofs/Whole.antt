@@ -13,9 +13,9 @@ use Rattle.star_lexer.specs.Reading.{piece_at, blank_at, token_at}
 use Rattle.star_lexer.specs.Layout.{spanned, settle, bracket, advanced, passed, ended, line_end, ends}
 use Rattle.star_lexer.specs.Pieces.{Piece, piece, spelled, Stands, IsFaulty}
 use Rattle.star_lexer.specs.Flaws as reading
-use Rattle.star_lexer.specs.Scan.{Lexed, Turn, turn, scan, with_front, at, at_place, ◌>>=◌}
+use Rattle.star_lexer.specs.Scan.{Lexed, Turn, turn, scan, with_prefix, at, at_place, ◌>>=◌}
 use Rattle.star_lexer.specs.Tokens.{IsCut, Laid, step, step_by, behind, lay, TokensFrom, FirstFaultFrom, FaultAt, faulty_token}
-use Rattle.star_lexer.proofs.Scans.{scan_turn, front-front, front-nil}
+use Rattle.star_lexer.proofs.Scans.{scan_turn, prefix-prefix, prefix-nil}
 
 -- a turn of this length
 turned : ℕ → Laid → Lexed Turn
@@ -116,7 +116,7 @@ pub record Exact : Type 0 where
   pub complete : (p : Piece) (rest : Chars) → Stands p rest → (0 < length p.spelling) × (piece_at (p.spelling ++ rest) ≡ Ok (p.lexeme, length p.spelling))
   pub refuses : (text : Chars) (bad : reading.Flaw) → IsFaulty bad text → (0 < length text) × (piece_at text ≡ Err bad)
 
-extend : (s s2 : Layout) (p : Piece) (rest : Chars) (given : List Spanned) (r : Lexed (List Spanned)) → Stands p rest → step s p ≡ Ok (s2, given) → Found s2 rest r → Found s (p.spelling ++ rest) (with_front given r)
+extend : (s s2 : Layout) (p : Piece) (rest : Chars) (given : List Spanned) (r : Lexed (List Spanned)) → Stands p rest → step s p ≡ Ok (s2, given) → Found s2 rest r → Found s (p.spelling ++ rest) (with_prefix given r)
 extend s s2 p rest given (Ok list) stands e found = record {
   pieces = p ∷ found.pieces;
   whole = ap (λ xs. p.spelling ++ xs) found.whole;
@@ -164,7 +164,7 @@ module _ (exact : Exact) where
   by_step s text l n (Ok a) some read e more =
       let (long, within, stands) = exact.sound text l n some read in
       let go = scan_turn s a.0 a.1 n text some long (step_ok s a.0 a.1 text l n read e) in
-      subst (Found s text) (sym go) (subst (λ xs. Found s xs (with_front a.1 (scan a.0 0 (drop n text)))) (take-append-drop n text) (extend s a.0 (piece l (take n text)) (drop n text) a.1 (scan a.0 0 (drop n text)) stands e (more a.0)))
+      subst (Found s text) (sym go) (subst (λ xs. Found s xs (with_prefix a.1 (scan a.0 0 (drop n text)))) (take-append-drop n text) (extend s a.0 (piece l (take n text)) (drop n text) a.1 (scan a.0 0 (drop n text)) stands e (more a.0)))
   by_step s text l n (Err x) some read e more =
       let (long, within, stands) = exact.sound text l n some read in
       subst (Found s text) (sym (scan_stops s text x some (step_err s text l n x read e)))
@@ -184,25 +184,25 @@ module _ (exact : Exact) where
   scan_found (suc bound) s (c ∷ cs) few = by_piece s (c ∷ cs) (piece_at (c ∷ cs)) (omega arith) refl (λ n long s2. scan_found bound s2 (drop n (c ∷ cs)) (omega (arith, length-drop n (c ∷ cs))))
 
   -- a piece that stands is read
-  piece_turn : (s s2 : Layout) (p : Piece) (rest : Chars) (given : List Spanned) → Stands p rest → step s p ≡ Ok (s2, given) → scan s 0 (p.spelling ++ rest) ≡ with_front given (scan s2 0 rest)
+  piece_turn : (s s2 : Layout) (p : Piece) (rest : Chars) (given : List Spanned) → Stands p rest → step s p ≡ Ok (s2, given) → scan s 0 (p.spelling ++ rest) ≡ with_prefix given (scan s2 0 rest)
   piece_turn s s2 p rest given stands e =
       let (long, read) = exact.complete p rest stands in
       let n = length p.spelling in
       let front : take n (p.spelling ++ rest) ≡ p.spelling = take_front p.spelling rest in
       let back : drop n (p.spelling ++ rest) ≡ rest = front_rest (p.spelling ++ rest) p.spelling rest refl in
       scan_turn s s2 given n (p.spelling ++ rest) (omega (arith, length-append p.spelling rest)) long (step_ok s s2 given (p.spelling ++ rest) p.lexeme n read (ap (step_by p.lexeme s) front ∙ e))
-      ∙ ap (λ xs. with_front given (scan s2 0 xs)) back
+      ∙ ap (λ xs. with_prefix given (scan s2 0 xs)) back
 
   -- the pieces of a cut are read, one after the other
-  cut_scans : (ps : List Piece) (s last : Layout) (given : List Spanned) (rest : Chars) → IsCut ps rest → lay s ps ≡ Ok (last, given) → scan s 0 (spelled ps ++ rest) ≡ with_front given (scan last 0 rest)
-  cut_scans [] s last given rest cut laid = subst (λ (a : Layout × List Spanned). scan s 0 rest ≡ with_front a.1 (scan a.0 0 rest)) (ok_same _ _ laid) (front-nil (scan s 0 rest))
+  cut_scans : (ps : List Piece) (s last : Layout) (given : List Spanned) (rest : Chars) → IsCut ps rest → lay s ps ≡ Ok (last, given) → scan s 0 (spelled ps ++ rest) ≡ with_prefix given (scan last 0 rest)
+  cut_scans [] s last given rest cut laid = subst (λ (a : Layout × List Spanned). scan s 0 rest ≡ with_prefix a.1 (scan a.0 0 rest)) (ok_same _ _ laid) (prefix-nil (scan s 0 rest))
   cut_scans (p ∷ ps) s last given rest cut laid =
       let split = split_lay (step s p) ps last given laid in
       ap (scan s 0) (append_assoc p.spelling (spelled ps) rest)
       ∙ piece_turn s split.next p (spelled ps ++ rest) split.front cut.0 split.first_is
-      ∙ ap (with_front split.front) (cut_scans ps split.next last split.more rest cut.1 split.rest_is)
-      ∙ front-front split.front split.more (scan last 0 rest)
-      ∙ ap (λ xs. with_front xs (scan last 0 rest)) (sym split.whole)
+      ∙ ap (with_prefix split.front) (cut_scans ps split.next last split.more rest cut.1 split.rest_is)
+      ∙ prefix-prefix split.front split.more (scan last 0 rest)
+      ∙ ap (λ xs. with_prefix xs (scan last 0 rest)) (sym split.whole)
 
   -- the tokens of a text are what the scan answers
   pub tokens_scanned : (s : Layout) (text : Chars) (list : List Spanned) → TokensFrom s text list → scan s 0 text ≡ Ok list
@@ -227,4 +227,4 @@ module _ (exact : Exact) where
   first_fault_scanned s text kind line is =
       ap (scan s 0) is.whole
       ∙ cut_scans is.pieces s is.last is.given is.rest is.cut is.laid
-      ∙ ap (with_front is.given) (fault_scanned is.last is.rest kind line is.fault)
+      ∙ ap (with_prefix is.given) (fault_scanned is.last is.rest kind line is.fault)

@@ -49,15 +49,15 @@ turn s text =
     else (if nat_lt 0 (blank_at text) then Ok (record { layout = passed s (take (blank_at text) text); given = []; len = blank_at text })
     else token_turn s text)
 
-abbrev pub with_front : {A : Type 0} → List A → Lexed (List A) → Lexed (List A)
-with_front front (Ok more) = Ok (front ++ more)
-with_front front (Err e) = Err e
+abbrev pub with_prefix : {A : Type 0} → List A → Lexed (List A) → Lexed (List A)
+with_prefix prefix (Ok more) = Ok (prefix ++ more)
+with_prefix prefix (Err e) = Err e
 
 -- The number counts the characters that are left of a piece.
 abbrev pub scan : Layout → ℕ → Chars → Lexed (List Spanned)
 scan s left [] = Ok (ends s)
 scan s (suc left) (c ∷ cs) = scan s left cs
-scan s zero (c ∷ cs) = turn s (c ∷ cs) >>= (λ t. with_front t.given (scan t.layout (t.len - 1) cs))
+scan s zero (c ∷ cs) = turn s (c ∷ cs) >>= (λ t. with_prefix t.given (scan t.layout (t.len - 1) cs))
 
 -- ---- what the code ensures
 

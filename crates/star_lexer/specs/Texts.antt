@@ -111,8 +111,8 @@ longer (Err e) = Err (e.0, suc e.1)
 
 -- these characters before
 abbrev pub before : Chars → Inside Chars → Inside Chars
-before front (Ok p) = Ok (front ++ p.0, p.1)
-before front (Err e) = Err e
+before prefix (Ok p) = Ok (prefix ++ p.0, p.1)
+before prefix (Err e) = Err e
 
 -- a part, and then the rest, which is told how many characters are left of the part
 abbrev pub follow : Result (Chars × ℕ) TextFault → (ℕ → Inside Chars) → Inside Chars

@@ -35,8 +35,8 @@ abbrev pub step : Layout → Piece → Laid
 step s p = step_by p.lexeme s p.spelling
 
 abbrev pub behind : List Spanned → Laid → Laid
-behind front (Ok a) = Ok (a.0, front ++ a.1)
-behind front (Err e) = Err e
+behind prefix (Ok a) = Ok (a.0, prefix ++ a.1)
+behind prefix (Err e) = Err e
 
 -- the same of all pieces
 abbrev pub lay : Layout → List Piece → Laid

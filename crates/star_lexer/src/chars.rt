@@ -45,7 +45,7 @@ pub fn is_quote(c: char) -> bool
 }
 
 /// The first characters, at most so many.
-pub fn front(text: &[char], most: usize) -> &[char]
+pub fn first_chars(text: &[char], most: usize) -> &[char]
     ensures { result.now ≡ take most text.now }
 {
     if most < text.len() {

@@ -3,7 +3,7 @@ ghost use Rattle.std.specs.Prelude.{◌≡◌, ◌≤◌, ◌<◌, ◌++◌, suc
 ghost use Rattle.star_lexer.specs.Texts as spec;
 ghost use Rattle.star_lexer.specs.Verdict.{Gives, blame, meant, of_char, of_meaning, of_part};
 
-use crate::chars::{Class, front, is_quote};
+use crate::chars::{Class, first_chars, is_quote};
 use crate::error::{Fault, LexKind};
 use crate::number::{all_in, value_of};
 use chex_base::Text;
@@ -167,7 +167,7 @@ fn escape_at(text: &[char]) -> Result<(Meaning, usize), TextFault>
         ['U', ..] => 9,
         _ => 1,
     };
-    let word = front(text, len);
+    let word = first_chars(text, len);
     match escape(word) {
         Some(meaning) => Ok((meaning, 1 + word.len())),
         None => Err(TextFault::Escape),

@@ -4,7 +4,7 @@ ghost use Rattle.star_lexer.specs.Flaws as flaws;
 ghost use Rattle.star_lexer.specs.Reading as spec;
 ghost use Rattle.star_lexer.specs.Verdict.{Gives};
 
-use crate::chars::{Class, front, is_name_start, run_len};
+use crate::chars::{Class, first_chars, is_name_start, run_len};
 use crate::error::{Fault, LexKind};
 use crate::keywords::keyword_of;
 use crate::literal::{is_text_start, literal};
@@ -36,11 +36,11 @@ fn mark_at(text: &[char]) -> Result<(Mark, usize), LexKind>
     ensures value { result ≡ spec.mark_at text.now }
     ensures within { IfOk result (λ p. (0 < p.1) × (p.1 ≤ length text.now)) }
 {
-    let found = match mark_of(front(text, 3)) {
+    let found = match mark_of(first_chars(text, 3)) {
         Some(mark) => Some(mark),
-        None => match mark_of(front(text, 2)) {
+        None => match mark_of(first_chars(text, 2)) {
             Some(mark) => Some(mark),
-            None => mark_of(front(text, 1)),
+            None => mark_of(first_chars(text, 1)),
         },
     };
     match found {

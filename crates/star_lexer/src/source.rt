@@ -11,7 +11,7 @@ ghost use Rattle.star_lexer.specs.Lexing.{IsSo, Answers, Refuses, HasTokens, Has
 ghost use Rattle.star_lexer.specs.declared.error.LexKind.{LexKind};
 ghost use Rattle.star_syntax.specs.declared.token.Spanned.{Spanned};
 
-use crate::chars::{front, newlines};
+use crate::chars::{first_chars, newlines};
 use crate::error::{Fault, LexFault};
 use crate::layout::{Layout, push_some};
 use crate::pieces::{blank_at, token_at};
@@ -26,7 +26,7 @@ fn placed(line: u32, text: &[char], fault: Fault) -> LexFault
     match fault {
         Fault::Bad { kind, place } => LexFault::Bad {
             kind,
-            line: line + newlines(front(text, place)) as u32,
+            line: line + newlines(first_chars(text, place)) as u32,
         },
         Fault::NoMemory => LexFault::NoMemory,
     }

@@ -12,7 +12,7 @@ use Rattle.star_parser.specs.Reading.{Input, Outcome, Reader, and_then, ◌>>◌
 use Rattle.star_parser.specs.Tables.{is_mark}
 use Rattle.star_parser.specs.Readers as readers
 use Rattle.star_parser.specs.Readers.{name_of, named_from, positional_by, arguments_from}
-use Rattle.star_parser.specs.ArgumentReaders.{argument, argument_by}
+use Rattle.star_parser.specs.Parts.{argument, argument_by}
 
 module _ (expr : Level → Reader Expr) (n : ℕ) (found : List Expr) where
   -- what follows one argument

@@ -16,7 +16,7 @@ use Rattle.star_parser.specs.declared.level.Level.{Level}
 use Rattle.star_parser.specs.Reading.{Input, Reader, and_then, ◌>>=◌, pure, next}
 use Rattle.star_parser.specs.StatementTables.{is_newline, is_indent, is_dedent, expect_indent, eat_dedent}
 use Rattle.star_parser.specs.StatementReaders.{line, statements_from, block}
-use Rattle.star_parser.specs.Lines.{Marks, free, plain, statement_marks, Matches}
+use Rattle.star_parser.proofs.Claims.{Claims, free, plain, statement_claims, Matches}
 use Rattle.star_parser.proofs.Exact.{Exact, Then, Just, exact_refuse, exact_then, exact_by, exact_same}
 use Rattle.star_parser.proofs.Steps.{Tok, some_token, exact_token_then, exact_last, token_next}
 use Rattle.star_parser.proofs.Rules.{length_less}
@@ -26,13 +26,13 @@ use Rattle.star_parser.proofs.LayoutSteps.{Closed, closed_there, closed_back, cl
 use Rattle.star_parser.proofs.LineMatches.{matches_split, matches_plain, plain_matches}
 use Rattle.star_parser.proofs.LineRules.{IsLine, some_line}
 use Rattle.star_parser.proofs.StatementParts.{EachBlock, statement_made}
-use Rattle.star_parser.proofs.Marks.{body_marks, marks_of, matched_joined, matched_cons}
+use Rattle.star_parser.proofs.ClaimLemmas.{body_claims, claims_of_parts, matched_joined, matched_cons}
 use Rattle.star_parser.proofs.Openings.{Opens, line_first, statement_first}
 
 -- the tokens are those of the statement, on its lines
 pub record IsSpelled (x : Statement) (c : Input) : Type 0 where
   pub levelled : IsStatement x
-  pub spelt : Matches c (statement_marks x)
+  pub spelt : Matches c (statement_claims x)
 
 -- the tokens don't go on with a statement
 pub record EndsStatement (more : Input) : Type 0 where
@@ -45,7 +45,7 @@ some_spelled =
     let (x, c, r) = some_line in (
       roll-Statement (Statement-F.Line x),
       c,
-      record { levelled = statement_made (Statement-F.Line x) r.0 tt; spelt = subst (Matches c) (sym (marks_of (Statement-F.Line x))) r.1 },
+      record { levelled = statement_made (Statement-F.Line x) r.0 tt; spelt = subst (Matches c) (sym (claims_of_parts (Statement-F.Line x))) r.1 },
     )
 
 -- ---- the statements of a block
@@ -56,7 +56,7 @@ pub record AreStatements (found all : List Statement) (c : Input) : Type 0 where
   pub others : List Statement
   pub whole : all ≡ found ++ first ∷ others
   pub levelled : AllByRecursion IsStatement (first ∷ others)
-  pub spelt : Matches c (flat_map statement_marks (first ∷ others) ++ plain (t.Dedent ∷ []))
+  pub spelt : Matches c (flat_map statement_claims (first ∷ others) ++ plain (t.Dedent ∷ []))
 
 -- Dedent, or more statements and Dedent
 abbrev DedentOr : List Statement → List Statement → Input → Type 0
@@ -74,26 +74,26 @@ statements_there found all c (x, c1, c2, r, inl closed, split) =
       others = [];
       whole = is;
       levelled = (r.levelled, tt);
-      spelt = matched_joined c c1 c2 (statement_marks x ++ []) (plain (t.Dedent ∷ [])) split (subst (Matches c1) (sym (append-nil (statement_marks x))) r.spelt) (matches_plain c2 (t.Dedent ∷ []) k);
+      spelt = matched_joined c c1 c2 (statement_claims x ++ []) (plain (t.Dedent ∷ [])) split (subst (Matches c1) (sym (append-nil (statement_claims x))) r.spelt) (matches_plain c2 (t.Dedent ∷ []) k);
     }
 statements_there found all c (x, c1, c2, r, inr more, split) = record {
   first = x;
   others = more.first ∷ more.others;
   whole = more.whole ∙ append_assoc found (x ∷ []) (more.first ∷ more.others);
   levelled = (r.levelled, more.levelled);
-  spelt = subst (Matches c) (sym (append_assoc (statement_marks x) (flat_map statement_marks (more.first ∷ more.others)) (plain (t.Dedent ∷ []))))
-      (matched_joined c c1 c2 (statement_marks x) (flat_map statement_marks (more.first ∷ more.others) ++ plain (t.Dedent ∷ [])) split r.spelt more.spelt);
+  spelt = subst (Matches c) (sym (append_assoc (statement_claims x) (flat_map statement_claims (more.first ∷ more.others)) (plain (t.Dedent ∷ []))))
+      (matched_joined c c1 c2 (statement_claims x) (flat_map statement_claims (more.first ∷ more.others) ++ plain (t.Dedent ∷ [])) split r.spelt more.spelt);
 }
 
 statements_by : (found all : List Statement) (c : Input) (x : Statement) (others : List Statement) → all ≡ found ++ x ∷ others → AllByRecursion IsStatement (x ∷ others)
-    → Matches c (flat_map statement_marks (x ∷ others) ++ plain (t.Dedent ∷ [])) → OneAndMore found all c
+    → Matches c (flat_map statement_claims (x ∷ others) ++ plain (t.Dedent ∷ [])) → OneAndMore found all c
 statements_by found all c x [] is levelled spelt =
-    let (c1, c2, split, is1, is2) = matches_split c (statement_marks x) (plain (t.Dedent ∷ [])) (subst (λ v. Matches c (v ++ plain (t.Dedent ∷ []))) (append-nil (statement_marks x)) spelt) in
+    let (c1, c2, split, is1, is2) = matches_split c (statement_claims x) (plain (t.Dedent ∷ [])) (subst (λ v. Matches c (v ++ plain (t.Dedent ∷ []))) (append-nil (statement_claims x)) spelt) in
     (x, c1, c2, record { levelled = levelled.0; spelt = is1 }, inl (closed_back t.Dedent (found ++ x ∷ []) all c2 is (plain_matches c2 (t.Dedent ∷ []) is2)), split)
 statements_by found all c x (y ∷ ys) is levelled spelt =
-    let rest : Marks = flat_map statement_marks (y ∷ ys) ++ plain (t.Dedent ∷ []) in
-    let (c1, c2, split, is1, is2) = matches_split c (statement_marks x) rest
-    (subst (Matches c) (append_assoc (statement_marks x) (flat_map statement_marks (y ∷ ys)) (plain (t.Dedent ∷ []))) spelt) in (
+    let rest : Claims = flat_map statement_claims (y ∷ ys) ++ plain (t.Dedent ∷ []) in
+    let (c1, c2, split, is1, is2) = matches_split c (statement_claims x) rest
+    (subst (Matches c) (append_assoc (statement_claims x) (flat_map statement_claims (y ∷ ys)) (plain (t.Dedent ∷ []))) spelt) in (
       x,
       c1,
       c2,
@@ -177,7 +177,7 @@ module _ (expr : Level → Reader Expr) (statement : Reader Statement) (bound : 
 pub record IsBlock (body : Block Statement) (c : Input) : Type 0 where
   pub fits : BlockFits body
   pub each : EachBlock IsStatement body
-  pub spelt : Matches c (body_marks body)
+  pub spelt : Matches c (body_claims body)
 
 -- Indent, and the statements up to Dedent
 abbrev InnerLines : Block Statement → Input → Type 0
@@ -198,7 +198,7 @@ indented_there body c (u, c1, c2, (s, is, one), (u', c3, c4, (s2, is2, one2), la
     let whole : IsBlock (Indented (r.first ∷ r.others)) c = record {
       fits = λ none. cc;
       each = r.levelled;
-      spelt = subst (λ v. Matches v (body_marks (Indented (r.first ∷ r.others)))) (sym all) (is, tt, (is2, tt, r.spelt));
+      spelt = subst (λ v. Matches v (body_claims (Indented (r.first ∷ r.others)))) (sym all) (is, tt, (is2, tt, r.spelt));
     } in
     subst (λ v. IsBlock v c) (sym (body_is ∙ ap (λ v. let p : Block Statement = Indented v in p) r.whole)) whole
 
@@ -214,7 +214,7 @@ indented_back (Inline x) c more h look =
     absurd (opens.opens.no_newline (let a : Some s.token ≡ Some t.Newline = ap (λ v. next (v ++ more)) (sym split) ∙ look in cc))
 indented_back (Indented []) c more h look = absurd (h.fits refl)
 indented_back (Indented (x ∷ xs)) c more h look =
-    let rest : Marks = flat_map statement_marks (x ∷ xs) ++ plain (t.Dedent ∷ []) in
+    let rest : Claims = flat_map statement_claims (x ∷ xs) ++ plain (t.Dedent ∷ []) in
     let (s, c2, split, is, m1) = matched_cons c t.Newline (free t.Indent ∷ rest) h.spelt in
     let (s2, c4, split2, is2, m2) = matched_cons c2 t.Indent rest m1 in (
       tt,
@@ -236,7 +236,7 @@ indented_back (Indented (x ∷ xs)) c more h look =
 inline_back : (body : Block Statement) (c more : Input) → IsBlock body c → next (c ++ more) ≢ Some t.Newline → IsInline body c
 inline_back (Inline x) c more h look = last_back IsLine (λ x. let p : Block Statement = Inline x in p) (Inline x) c x (h.fits, h.spelt) refl
 inline_back (Indented xs) c more h look =
-    let (s, c2, split, is, m1) = matched_cons c t.Newline (free t.Indent ∷ (flat_map statement_marks xs ++ plain (t.Dedent ∷ []))) h.spelt in
+    let (s, c2, split, is, m1) = matched_cons c t.Newline (free t.Indent ∷ (flat_map statement_claims xs ++ plain (t.Dedent ∷ []))) h.spelt in
     absurd (look (ap (λ v. next (v ++ more)) split ∙ ap Some is))
 
 some_inner : (body : Block Statement) × (c : Input) × InnerLines body c

@@ -21,7 +21,7 @@ use Rattle.star_parser.specs.Tables.{expect}
 use Rattle.star_parser.specs.Ends.{Ends}
 use Rattle.star_parser.specs.StatementTables.{first_line}
 use Rattle.star_parser.specs.StatementReaders.{line, block, branch, branches_from, otherwise, if_after}
-use Rattle.star_parser.specs.Lines.{Marks, free, plain, Matches}
+use Rattle.star_parser.proofs.Claims.{Claims, free, plain, Matches}
 use Rattle.star_parser.proofs.Exact.{Exact, Then, Just, exact_then, exact_by, exact_same, exact_ends, exact_pure}
 use Rattle.star_parser.proofs.Steps.{Tok, exact_token_then, exact_last, exact_eat_word}
 use Rattle.star_parser.proofs.Rules.{IsExpr, length_after, length_less, some_is}
@@ -31,7 +31,7 @@ use Rattle.star_parser.proofs.Closing.{token_ends}
 use Rattle.star_parser.proofs.LineMatches.{matches_split}
 use Rattle.star_parser.proofs.LineRules.{IsLine}
 use Rattle.star_parser.proofs.StatementParts.{EachBranch, EachElse, EachPart}
-use Rattle.star_parser.proofs.Marks.{body_marks, case_marks, otherwise_marks, parts_marks, matched_joined, matched_cons, matched_line}
+use Rattle.star_parser.proofs.ClaimLemmas.{body_claims, case_claims, otherwise_claims, parts_claims, matched_joined, matched_cons, matched_line}
 use Rattle.star_parser.proofs.Openings.{line_first}
 use Rattle.star_parser.proofs.Blocks.{IsSpelled, EndsStatement, IsBlock}
 use Rattle.star_parser.proofs.Headers.{fronted, front_split, matched_token, TokAt, exact_tok_at, ColonBlock, colon_there, colon_back, some_colon, colon_exact, node_of, of_node}
@@ -47,8 +47,8 @@ abbrev branch_of : Expr → Block Statement → Branch Statement
 branch_of condition body = record { condition = condition; body = body }
 
 -- the tokens after `if` or `elif`
-abbrev pub branch_rest : Branch Statement → Marks
-branch_rest x = plain (expr_spelling x.condition ++ t.Mark m.Colon ∷ []) ++ body_marks x.body
+abbrev pub branch_rest : Branch Statement → Claims
+branch_rest x = plain (expr_spelling x.condition ++ t.Mark m.Colon ∷ []) ++ body_claims x.body
 
 -- the tokens after `if` or `elif` are those of the branch, on its lines
 pub record IsBranch (x : Branch Statement) (c : Input) : Type 0 where
@@ -66,13 +66,13 @@ branch_there x c (condition, c1, c2, r, last, split) =
     let whole : IsBranch (branch_of condition body) c = record {
       fits = (r.levelled, b.fits);
       each = b.each;
-      spelt = fronted c c1 c2 (expr_spelling condition) (t.Mark m.Colon ∷ []) (body_marks body) split r.spelt b.spelt;
+      spelt = fronted c c1 c2 (expr_spelling condition) (t.Mark m.Colon ∷ []) (body_claims body) split r.spelt b.spelt;
     } in
     subst (λ v. IsBranch v c) (sym x_is) whole
 
 branch_back : (x : Branch Statement) (c : Input) → IsBranch x c → BranchWhole x c
 branch_back x c h =
-    let (c1, c2, split, is, found) = front_split c (expr_spelling x.condition) (t.Mark m.Colon ∷ []) (body_marks x.body) h.spelt in (
+    let (c1, c2, split, is, found) = front_split c (expr_spelling x.condition) (t.Mark m.Colon ∷ []) (body_claims x.body) h.spelt in (
       x.condition,
       c1,
       c2,
@@ -95,7 +95,7 @@ pub record AreBranches (found all : List (Branch Statement)) (c : Input) : Type 
   pub whole : all ≡ found ++ others
   pub fits : AllByRecursion BranchFits others
   pub each : AllByRecursion (EachBranch IsStatement) others
-  pub spelt : Matches c (flat_map (case_marks w.Elif) others)
+  pub spelt : Matches c (flat_map (case_claims w.Elif) others)
 
 abbrev elif_word : Token
 elif_word = t.Word w.Elif
@@ -114,14 +114,14 @@ another_there found all c (u, c1, c2, (s, is, one), (x, c3, c4, r, more, split2)
   whole = more.whole ∙ append_assoc found (x ∷ []) more.others;
   fits = (r.fits, more.fits);
   each = (r.each, more.each);
-  spelt = matched_joined c (s ∷ c3) c4 (case_marks w.Elif x) (flat_map (case_marks w.Elif) more.others) (split ∙ ap (λ v. v ++ c2) one ∙ ap (λ v. s ∷ v) split2) (is, tt, r.spelt) more.spelt;
+  spelt = matched_joined c (s ∷ c3) c4 (case_claims w.Elif x) (flat_map (case_claims w.Elif) more.others) (split ∙ ap (λ v. v ++ c2) one ∙ ap (λ v. s ∷ v) split2) (is, tt, r.spelt) more.spelt;
 }
 
 another_by : (found all : List (Branch Statement)) (c more : Input) (others : List (Branch Statement)) → all ≡ found ++ others → AllByRecursion BranchFits others
-    → AllByRecursion (EachBranch IsStatement) others → Matches c (flat_map (case_marks w.Elif) others) → NoElif more → next (c ++ more) ≡ Some elif_word → Another found all c
+    → AllByRecursion (EachBranch IsStatement) others → Matches c (flat_map (case_claims w.Elif) others) → NoElif more → next (c ++ more) ≡ Some elif_word → Another found all c
 another_by found all c more [] whole fits each spelt ends look = absurd (ends (ap (λ v. next (v ++ more)) (sym (matched_none c spelt)) ∙ look))
 another_by found all c more (x ∷ xs) whole fits each spelt ends look =
-    let (d, c4, split, m1, m2) = matches_split c (case_marks w.Elif x) (flat_map (case_marks w.Elif) xs) spelt in
+    let (d, c4, split, m1, m2) = matches_split c (case_claims w.Elif x) (flat_map (case_claims w.Elif) xs) spelt in
     let (s, c3, split2, is, m3) = matched_cons d elif_word (branch_rest x) m1 in (
       tt,
       s ∷ [],
@@ -141,11 +141,11 @@ another_by found all c more (x ∷ xs) whole fits each spelt ends look =
 none_there : (found all : List (Branch Statement)) (c : Input) → Just found all c → AreBranches found all c
 none_there found all c (is, none) = record { others = []; whole = is ∙ sym (append-nil found); fits = tt; each = tt; spelt = subst (λ v. Matches v []) (sym none) tt }
 
-none_by : (found all : List (Branch Statement)) (c more : Input) (others : List (Branch Statement)) → all ≡ found ++ others → Matches c (flat_map (case_marks w.Elif) others)
+none_by : (found all : List (Branch Statement)) (c more : Input) (others : List (Branch Statement)) → all ≡ found ++ others → Matches c (flat_map (case_claims w.Elif) others)
     → next (c ++ more) ≢ Some elif_word → Just found all c
 none_by found all c more [] whole spelt look = (whole ∙ append-nil found, matched_none c spelt)
 none_by found all c more (x ∷ xs) whole spelt look =
-    let (s, c', split, is, _) = matched_cons c elif_word (branch_rest x ++ flat_map (case_marks w.Elif) xs) spelt in
+    let (s, c', split, is, _) = matched_cons c elif_word (branch_rest x ++ flat_map (case_claims w.Elif) xs) spelt in
     absurd (look (ap (λ v. next (v ++ more)) split ∙ ap Some is))
 
 some_branches : (found : List (Branch Statement)) → (all : List (Branch Statement)) × (c : Input) × AreBranches found all c
@@ -155,10 +155,10 @@ some_branches found = (found, [], none_there found found [] (refl, refl))
 branches_next : (P : Option Token → Type 0) (found all : List (Branch Statement)) (c more : Input) → AreBranches found all c → P (Some elif_word) → P (next more) → P (next (c ++ more))
 branches_next P found all c more h at_elif at_end = by_others h.others h.spelt
   where
-    by_others : (others : List (Branch Statement)) → Matches c (flat_map (case_marks w.Elif) others) → P (next (c ++ more))
+    by_others : (others : List (Branch Statement)) → Matches c (flat_map (case_claims w.Elif) others) → P (next (c ++ more))
     by_others [] spelt = subst (λ v. P (next (v ++ more))) (sym (matched_none c spelt)) at_end
     by_others (x ∷ xs) spelt =
-        let (s, c', split, is, _) = matched_cons c elif_word (branch_rest x ++ flat_map (case_marks w.Elif) xs) spelt in
+        let (s, c', split, is, _) = matched_cons c elif_word (branch_rest x ++ flat_map (case_claims w.Elif) xs) spelt in
         subst P (sym (ap (λ v. next (v ++ more)) split ∙ ap Some is)) at_elif
 
 -- ---- `else`
@@ -174,7 +174,7 @@ NoElse more = next more ≢ Some (t.Word w.Else)
 pub record IsOtherwise (other : Option (Block Statement)) (c : Input) : Type 0 where
   pub fits : ElseFits other
   pub each : EachElse IsStatement other
-  pub spelt : Matches c (otherwise_marks other)
+  pub spelt : Matches c (otherwise_claims other)
 
 abbrev made_else : Block Statement → Option (Block Statement)
 made_else body = Some body
@@ -186,13 +186,13 @@ IsElse = Then (Tok else_word) (λ _. ColonBlock made_else)
 else_there : (other : Option (Block Statement)) (c : Input) → IsElse other c → IsOtherwise other c
 else_there other c (u, c1, c2, (s, is, one), last, split) =
     let (body, b, other_is) = colon_there made_else other c2 last in
-    let whole : IsOtherwise (Some body) c = record { fits = b.fits; each = b.each; spelt = matched_token c c1 c2 else_word s (free (t.Mark m.Colon) ∷ body_marks body) split one is b.spelt } in
+    let whole : IsOtherwise (Some body) c = record { fits = b.fits; each = b.each; spelt = matched_token c c1 c2 else_word s (free (t.Mark m.Colon) ∷ body_claims body) split one is b.spelt } in
     subst (λ v. IsOtherwise v c) (sym other_is) whole
 
 else_back : (other : Option (Block Statement)) (c more : Input) → IsOtherwise other c → NoElse more → next (c ++ more) ≡ Some else_word → IsElse other c
 else_back None c more h ends look = absurd (ends (ap (λ v. next (v ++ more)) (sym (matched_none c h.spelt)) ∙ look))
 else_back (Some body) c more h ends look =
-    let (s, c2, split, is, found) = matched_cons c else_word (free (t.Mark m.Colon) ∷ body_marks body) h.spelt in
+    let (s, c2, split, is, found) = matched_cons c else_word (free (t.Mark m.Colon) ∷ body_claims body) h.spelt in
     (tt, s ∷ [], c2, (s, is, refl), colon_back made_else (Some body) c2 body (record { fits = h.fits; each = h.each; spelt = found }) refl, split)
 
 no_else_there : (other : Option (Block Statement)) (c : Input) → Just None other c → IsOtherwise other c
@@ -203,7 +203,7 @@ no_else_there other c (is, none) =
 no_else_back : (other : Option (Block Statement)) (c more : Input) → IsOtherwise other c → next (c ++ more) ≢ Some else_word → Just None other c
 no_else_back None c more h look = (refl, matched_none c h.spelt)
 no_else_back (Some body) c more h look =
-    let (s, c2, split, is, found) = matched_cons c else_word (free (t.Mark m.Colon) ∷ body_marks body) h.spelt in
+    let (s, c2, split, is, found) = matched_cons c else_word (free (t.Mark m.Colon) ∷ body_claims body) h.spelt in
     absurd (look (ap (λ v. next (v ++ more)) split ∙ ap Some is))
 
 some_otherwise : (other : Option (Block Statement)) × (c : Input) × IsOtherwise other c
@@ -212,7 +212,7 @@ some_otherwise = (None, [], no_else_there None [] (refl, refl))
 otherwise_next : (P : Option Token → Type 0) (other : Option (Block Statement)) (c more : Input) → IsOtherwise other c → P (Some else_word) → P (next more) → P (next (c ++ more))
 otherwise_next P None c more h at_else at_end = subst (λ v. P (next (v ++ more))) (sym (matched_none c h.spelt)) at_end
 otherwise_next P (Some body) c more h at_else at_end =
-    let (s, c2, split, is, found) = matched_cons c else_word (free (t.Mark m.Colon) ∷ body_marks body) h.spelt in
+    let (s, c2, split, is, found) = matched_cons c else_word (free (t.Mark m.Colon) ∷ body_claims body) h.spelt in
     subst P (sym (ap (λ v. next (v ++ more)) split ∙ ap Some is)) at_else
 
 -- ---- the whole
@@ -240,25 +240,25 @@ pub if_there : (x : Statement) (c : Input) → IsIf x c → IsSpelled x c
 if_there x c (at, c1, c2, (s, is, at_is, one), (first, c3, c4, r1, (more, c5, c6, r2, last, split3), split2), split) =
     let (other, r3, x_is) = last_there IsOtherwise (λ other. made_if at first more other) x c6 last in
     let x_is' : roll-Statement (Statement-F.If at first more other) ≡ x = tree.rolls-If at first more other ∙ sym x_is in
-    let tail : Matches c4 (flat_map (case_marks w.Elif) more ++ otherwise_marks other) =
-    matched_joined c4 c5 c6 (flat_map (case_marks w.Elif) more) (otherwise_marks other) split3 (subst (λ v. Matches c5 (flat_map (case_marks w.Elif) v)) (sym r2.whole) r2.spelt) r3.spelt in
+    let tail : Matches c4 (flat_map (case_claims w.Elif) more ++ otherwise_claims other) =
+    matched_joined c4 c5 c6 (flat_map (case_claims w.Elif) more) (otherwise_claims other) split3 (subst (λ v. Matches c5 (flat_map (case_claims w.Elif) v)) (sym r2.whole) r2.spelt) r3.spelt in
     of_node (Statement-F.If at first more other) x c x_is' (r1.fits, subst (AllByRecursion BranchFits) (sym r2.whole) r2.fits, r3.fits)
     (r1.each, subst (AllByRecursion (EachBranch IsStatement)) (sym r2.whole) r2.each, r3.each)
-    (subst (λ v. Matches v (parts_marks (Statement-F.If at first more other))) (sym (split ∙ ap (λ v. v ++ c2) one)) (is, at_is, matched_joined c2 c3 c4 (branch_rest first) (flat_map (case_marks w.Elif) more ++ otherwise_marks other) split2 r1.spelt tail))
+    (subst (λ v. Matches v (parts_claims (Statement-F.If at first more other))) (sym (split ∙ ap (λ v. v ++ c2) one)) (is, at_is, matched_joined c2 c3 c4 (branch_rest first) (flat_map (case_claims w.Elif) more ++ otherwise_claims other) split2 r1.spelt tail))
 
 -- a header's first token is the first one
-pub header_next : (c more : Input) (at : ℕ) (k : Token) (x : Marks) → Matches c ((k, Some at) ∷ x) → next (c ++ more) ≡ Some k
+pub header_next : (c more : Input) (at : ℕ) (k : Token) (x : Claims) → Matches c ((k, Some at) ∷ x) → next (c ++ more) ≡ Some k
 header_next c more at k x h = let (s, c', split, is, _, _) = matched_line c at k x h in ap (λ v. next (v ++ more)) split ∙ ap Some is
 
-if_by : (x : Statement) (c more : Input) (d : Statement-F Statement) → roll-Statement d ≡ x → StatementFits d → EachPart IsStatement d → Matches c (parts_marks d)
+if_by : (x : Statement) (c more : Input) (d : Statement-F Statement) → roll-Statement d ≡ x → StatementFits d → EachPart IsStatement d → Matches c (parts_claims d)
     → next (c ++ more) ≡ Some (t.Word w.If) → IsIf x c
 if_by x c more (Statement-F.Line l) is fits each spelt look =
     let (s, c', split, opens) = line_first l c fits spelt in
     absurd (opens.no_if (let a : Some s.token ≡ Some (t.Word w.If) = ap (λ v. next (v ++ more)) (sym split) ∙ look in cc))
 if_by x c more (Statement-F.If at first others other) is fits each spelt look =
-    let (s, c2, split, s_is, at_is, m1) = matched_line c at (t.Word w.If) (branch_rest first ++ (flat_map (case_marks w.Elif) others ++ otherwise_marks other)) spelt in
-    let (c3, c4, split2, m2, m3) = matches_split c2 (branch_rest first) (flat_map (case_marks w.Elif) others ++ otherwise_marks other) m1 in
-    let (c5, c6, split3, m4, m5) = matches_split c4 (flat_map (case_marks w.Elif) others) (otherwise_marks other) m3 in (
+    let (s, c2, split, s_is, at_is, m1) = matched_line c at (t.Word w.If) (branch_rest first ++ (flat_map (case_claims w.Elif) others ++ otherwise_claims other)) spelt in
+    let (c3, c4, split2, m2, m3) = matches_split c2 (branch_rest first) (flat_map (case_claims w.Elif) others ++ otherwise_claims other) m1 in
+    let (c5, c6, split3, m4, m5) = matches_split c4 (flat_map (case_claims w.Elif) others) (otherwise_claims other) m3 in (
       at,
       s ∷ [],
       c2,

@@ -14,15 +14,14 @@ use Rattle.star_parser.specs.Reading.{Input, Reader, ◌>>=◌, pure, next}
 use Rattle.star_parser.specs.Readers.{expr}
 use Rattle.star_parser.specs.StatementTables.{is_end, finish}
 use Rattle.star_parser.specs.StatementReaders.{statement, cell_from, cell, whole}
-use Rattle.star_parser.specs.Lines.{Marks, plain, statement_marks, module_marks, Matches}
-use Rattle.star_parser.specs.Trees.{IsTree}
+use Rattle.star_parser.proofs.Claims.{Claims, plain, statement_claims, module_claims, Matches, IsClaimed}
 use Rattle.star_parser.proofs.Exact.{Exact, Then, Just, exact_refuse, exact_then, exact_by, exact_same, exact_pure}
 use Rattle.star_parser.proofs.Steps.{token_next}
 use Rattle.star_parser.proofs.Rules.{length_less}
 use Rattle.star_parser.proofs.Bracketed.{Any, Inside}
 use Rattle.star_parser.proofs.LayoutSteps.{Closed, closed_there, closed_back, closed_exact, some_closed, end_is, exact_eat_by}
 use Rattle.star_parser.proofs.LineMatches.{matches_split, matches_plain, plain_matches}
-use Rattle.star_parser.proofs.Marks.{matched_joined}
+use Rattle.star_parser.proofs.ClaimLemmas.{matched_joined}
 use Rattle.star_parser.proofs.Openings.{Opens}
 use Rattle.star_parser.proofs.Blocks.{IsSpelled, EndsStatement, spelled_first, spelled_some, opening_ends}
 use Rattle.star_parser.proofs.Whole.{expr_exact}
@@ -39,7 +38,7 @@ record AreAll (found all : List Statement) (c : Input) : Type 0 where
   pub others : List Statement
   pub whole : all ≡ found ++ others
   pub levelled : AllByRecursion IsStatement others
-  pub spelt : Matches c (flat_map statement_marks others ++ plain (t.End ∷ []))
+  pub spelt : Matches c (flat_map statement_claims others ++ plain (t.End ∷ []))
 
 -- a statement, and more of them up to End
 abbrev Another : List Statement → List Statement → Input → Type 0
@@ -50,8 +49,8 @@ another_there found all c (x, c1, c2, r, more, split) = record {
   others = x ∷ more.others;
   whole = more.whole ∙ append_assoc found (x ∷ []) more.others;
   levelled = (r.levelled, more.levelled);
-  spelt = subst (Matches c) (sym (append_assoc (statement_marks x) (flat_map statement_marks more.others) (plain (t.End ∷ []))))
-      (matched_joined c c1 c2 (statement_marks x) (flat_map statement_marks more.others ++ plain (t.End ∷ [])) split r.spelt more.spelt);
+  spelt = subst (Matches c) (sym (append_assoc (statement_claims x) (flat_map statement_claims more.others) (plain (t.End ∷ []))))
+      (matched_joined c c1 c2 (statement_claims x) (flat_map statement_claims more.others ++ plain (t.End ∷ [])) split r.spelt more.spelt);
 }
 
 ended_there : (found all : List Statement) (c : Input) → Closed t.End found all c → AreAll found all c
@@ -61,11 +60,11 @@ ended_there found all c h =
 
 -- a cell's tokens begin with End, or with a statement
 all_by : (found all : List Statement) (c : Input) (others : List Statement) → all ≡ found ++ others → AllByRecursion IsStatement others
-    → Matches c (flat_map statement_marks others ++ plain (t.End ∷ [])) → Closed t.End found all c ⊎ Another found all c
+    → Matches c (flat_map statement_claims others ++ plain (t.End ∷ [])) → Closed t.End found all c ⊎ Another found all c
 all_by found all c [] whole levelled spelt = inl (closed_back t.End found all c (whole ∙ append-nil found) (plain_matches c (t.End ∷ []) spelt))
 all_by found all c (x ∷ xs) whole levelled spelt =
-    let rest : Marks = flat_map statement_marks xs ++ plain (t.End ∷ []) in
-    let (c1, c2, split, m1, m2) = matches_split c (statement_marks x) rest (subst (Matches c) (append_assoc (statement_marks x) (flat_map statement_marks xs) (plain (t.End ∷ []))) spelt) in
+    let rest : Claims = flat_map statement_claims xs ++ plain (t.End ∷ []) in
+    let (c1, c2, split, m1, m2) = matches_split c (statement_claims x) rest (subst (Matches c) (append_assoc (statement_claims x) (flat_map statement_claims xs) (plain (t.End ∷ []))) spelt) in
     inr (
       x,
       c1,
@@ -136,19 +135,19 @@ Finished found = Then (Just {T = Unit {0}} tt) (λ _. Just (cell_of found))
 abbrev IsCell : Module → Input → Type 0
 IsCell = Then (AreAll []) Finished
 
-cell_there : (x : Module) (c : Input) → IsCell x c → IsTree x c
-unfolding WellLevelled module_marks
+cell_there : (x : Module) (c : Input) → IsCell x c → IsClaimed x c
+unfolding WellLevelled module_claims
 cell_there x c (found, c1, c2, r, (u, c3, c4, (_, none1), (x_is, none2), split2), split) =
     let all : c ≡ c1 = split ∙ ap (λ v. c1 ++ v) (split2 ∙ ap (λ v. v ++ c4) none1 ∙ none2) ∙ append-nil c1 in
-    let whole : IsTree (cell_of found) c = (
+    let whole : IsClaimed (cell_of found) c = (
       subst (AllByRecursion IsStatement) (sym r.whole) r.levelled,
-      subst (λ v. Matches v (flat_map statement_marks found ++ plain (t.End ∷ []))) (sym all)
-          (subst (λ v. Matches c1 (flat_map statement_marks v ++ plain (t.End ∷ []))) (sym r.whole) r.spelt),
+      subst (λ v. Matches v (flat_map statement_claims found ++ plain (t.End ∷ []))) (sym all)
+          (subst (λ v. Matches c1 (flat_map statement_claims v ++ plain (t.End ∷ []))) (sym r.whole) r.spelt),
     ) in
-    subst (λ v. IsTree v c) (sym x_is) whole
+    subst (λ v. IsClaimed v c) (sym x_is) whole
 
-cell_back : (x : Module) (c : Input) → IsTree x c → IsCell x c
-unfolding WellLevelled module_marks
+cell_back : (x : Module) (c : Input) → IsClaimed x c → IsCell x c
+unfolding WellLevelled module_claims
 cell_back x c h = (x.statements, c, [], record { others = x.statements; whole = refl; levelled = h.0; spelt = h.1 }, (tt, [], [], (refl, refl), (refl, refl), refl), sym (append-nil c))
 
 finish_exact : (ts : Input) → Exact (Just {T = Unit {0}} tt) Nothing ts (finish ts)
@@ -160,10 +159,10 @@ some_finished : (found : List Statement) → (x : Module) × (c : Input) × Fini
 some_finished found = (cell_of found, [], (tt, [], [], (refl, refl), (refl, refl), refl))
 
 module _ (expr : Level → Reader Expr) (statement : Reader Statement) (bound : ℕ) (exact : (ts : Input) → length ts < bound → Exact IsSpelled EndsStatement ts (statement ts)) where
-  cell_exact : (ts : Input) → length ts < bound → Exact IsTree Nothing ts (cell expr statement ts)
+  cell_exact : (ts : Input) → length ts < bound → Exact IsClaimed Nothing ts (cell expr statement ts)
   unfolding cell
   cell_exact ts few =
-      exact_same IsCell IsTree Nothing cell_there cell_back ts _
+      exact_same IsCell IsClaimed Nothing cell_there cell_back ts _
       (exact_then (AreAll []) Finished Any Nothing (λ _ _ _ _ _ _ _ _. tt) (λ found c r. some_finished found)
       ts (cell_from expr statement (length ts) [] ts) (λ found. finish >>= λ _. pure (cell_of found)) (all_exact expr statement bound exact (length ts) [] ts (omega arith) few)
       (λ found left taken split r. exact_then (Just {T = Unit {0}} tt) (λ _. Just (cell_of found)) Nothing Nothing
@@ -172,7 +171,7 @@ module _ (expr : Level → Reader Expr) (statement : Reader Statement) (bound : 
 
 -- Where the depths are enough for the tokens, the tree that is read is the one that stands there, and the place
 -- that is refused is the first at which none goes on.
-pub whole_exact : (terms depth : ℕ) (ts : Input) → 12 * length ts + 11 < terms → length ts < depth → Exact IsTree Nothing ts (whole terms depth ts)
+pub whole_exact : (terms depth : ℕ) (ts : Input) → 12 * length ts + 11 < terms → length ts < depth → Exact IsClaimed Nothing ts (whole terms depth ts)
 unfolding whole
 whole_exact terms depth ts enough deep =
     let inside : Inside (expr terms) (length ts + 1) = (λ l ts' few. expr_exact terms l ts' (omega arith)) in

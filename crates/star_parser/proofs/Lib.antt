@@ -23,7 +23,9 @@ pub mod NoEnd
 pub mod LayoutSteps
 pub mod LineMatches
 pub mod StatementParts
-pub mod Marks
+pub mod Claims
+pub mod ClaimLemmas
+pub mod ClaimedLines
 pub mod Relining
 pub mod Openings
 pub mod Blocks
@@ -34,6 +36,7 @@ pub mod Smalls
 pub mod LineRules
 pub mod Parameters
 pub mod SliceSteps
+pub mod OverSteps
 pub mod ArgumentSteps
 pub mod TargetLists
 pub mod Loops

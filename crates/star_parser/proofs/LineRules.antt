@@ -17,7 +17,7 @@ use Rattle.star_parser.specs.Reading.{Input, Reader, and_then, ◌>>=◌, pure, 
 use Rattle.star_parser.specs.Tables.{eat}
 use Rattle.star_parser.specs.StatementTables.{is_newline, eat_newline, expect_newline}
 use Rattle.star_parser.specs.StatementReaders.{line_of, small, smalls_from, line}
-use Rattle.star_parser.specs.Lines.{Marks, free, plain, small_marks, smalls_marks, line_marks, Matches}
+use Rattle.star_parser.proofs.Claims.{Claims, free, plain, small_claims, smalls_claims, line_claims, Matches}
 use Rattle.star_parser.proofs.Exact.{Exact, Then, Just, exact_refuse, exact_then, exact_by, exact_same, exact_pure}
 use Rattle.star_parser.proofs.Steps.{Tok, exact_token_then, exact_eat, token_next}
 use Rattle.star_parser.proofs.Rules.{length_after}
@@ -28,7 +28,7 @@ use Rattle.star_parser.proofs.Smalls.{semicolon, EndsSmall, IsSmall, small_there
 
 -- the tokens spell the line, and the lines of its small statements are those of their first tokens
 abbrev pub IsLine : Line → Input → Type 0
-IsLine x c = LineFits x × Matches c (line_marks x)
+IsLine x c = LineFits x × Matches c (line_claims x)
 
 -- each small statement is well-levelled
 abbrev pub SmallsFit : List Small → Type 0
@@ -45,7 +45,7 @@ pub record AreSmalls (found : List Small) (all : Line) (c : Input) : Type 0 wher
   pub written : Bool
   pub whole : all ≡ line_of (found ++ first ∷ others) written
   pub fits : SmallsFit (first ∷ others)
-  pub spelt : Matches c (smalls_marks (first ∷ others) ++ plain (ending written))
+  pub spelt : Matches c (smalls_claims (first ∷ others) ++ plain (ending written))
 
 -- after a semicolon: the end of the line, or further small statements
 abbrev AfterSemicolon : List Small → Line → Input → Type 0
@@ -60,13 +60,13 @@ abbrev SmallsWhole : List Small → Line → Input → Type 0
 SmallsWhole found = Then IsSmall (λ x. SmallsTail (found ++ x ∷ []))
 
 -- after a small statement
-spelt_after : (x : Small) (c c1 c2 : Input) (later : Marks) → IsSmall x c1 → c ≡ c1 ++ c2 → Matches c2 later → Matches c (small_marks x ++ later)
+spelt_after : (x : Small) (c c1 c2 : Input) (later : Claims) → IsSmall x c1 → c ≡ c1 ++ c2 → Matches c2 later → Matches c (small_claims x ++ later)
 spelt_after x c c1 c2 later r split h =
-    let (fits, is) = small_there x c1 r in subst (λ v. Matches v (small_marks x ++ later)) (sym split) (matches_append c1 c2 (small_marks x) later is h)
+    let (fits, is) = small_there x c1 r in subst (λ v. Matches v (small_claims x ++ later)) (sym split) (matches_append c1 c2 (small_claims x) later is h)
 
-one_spelt : (x : Small) (c c1 c2 : Input) (written : Bool) → IsSmall x c1 → c ≡ c1 ++ c2 → kinds c2 ≡ ending written → Matches c (smalls_marks (x ∷ []) ++ plain (ending written))
+one_spelt : (x : Small) (c c1 c2 : Input) (written : Bool) → IsSmall x c1 → c ≡ c1 ++ c2 → kinds c2 ≡ ending written → Matches c (smalls_claims (x ∷ []) ++ plain (ending written))
 one_spelt x c c1 c2 written r split spelt =
-    subst (λ v. Matches c (v ++ plain (ending written))) (sym (append-nil (small_marks x))) (spelt_after x c c1 c2 (plain (ending written)) r split (matches_plain c2 (ending written) spelt))
+    subst (λ v. Matches c (v ++ plain (ending written))) (sym (append-nil (small_claims x))) (spelt_after x c c1 c2 (plain (ending written)) r split (matches_plain c2 (ending written) spelt))
 
 smalls_there : (found : List Small) (all : Line) (c : Input) → SmallsWhole found all c → AreSmalls found all c
 smalls_there found all c (x, c1, c2, r, inl closed, split) =
@@ -77,7 +77,7 @@ smalls_there found all c (x, c1, c2, r, inr (u, c3, c4, (s, s_is, one), inl clos
     let k : kinds c2 ≡ semicolon ∷ t.Newline ∷ [] = ap kinds (split2 ∙ ap (λ v. v ++ c4) one) ∙ ap (λ v. v ∷ kinds c4) s_is ∙ ap (λ v. semicolon ∷ v) spelt in
     record { first = x; others = []; written = true; whole = is; fits = ((small_there x c1 r).0, tt); spelt = one_spelt x c c1 c2 true r split k }
 smalls_there found all c (x, c1, c2, r, inr (u, c3, c4, (s, s_is, one), inr more, split2), split) =
-    let later : Marks = free semicolon ∷ (smalls_marks (more.first ∷ more.others) ++ plain (ending more.written)) in
+    let later : Claims = free semicolon ∷ (smalls_claims (more.first ∷ more.others) ++ plain (ending more.written)) in
     let k : Matches c2 later = subst (λ v. Matches v later) (sym (split2 ∙ ap (λ v. v ++ c4) one)) (s_is, tt, more.spelt) in
     record {
       first = x;
@@ -85,29 +85,29 @@ smalls_there found all c (x, c1, c2, r, inr (u, c3, c4, (s, s_is, one), inr more
       written = more.written;
       whole = more.whole ∙ ap (λ v. line_of v more.written) (append_assoc found (x ∷ []) (more.first ∷ more.others));
       fits = ((small_there x c1 r).0, more.fits);
-      spelt = subst (Matches c) (sym (append_assoc (small_marks x) (free semicolon ∷ smalls_marks (more.first ∷ more.others)) (plain (ending more.written))))
+      spelt = subst (Matches c) (sym (append_assoc (small_claims x) (free semicolon ∷ smalls_claims (more.first ∷ more.others)) (plain (ending more.written))))
           (spelt_after x c c1 c2 later r split k);
     }
 
 -- the tokens that a token with any line begins
-first_free : (k : Token) (c : Input) (ks : Marks) → Matches c (free k ∷ ks) → (s : Spanned) × (d : Input) × (c ≡ s ∷ d) × (s.token ≡ k) × Matches d ks
+first_free : (k : Token) (c : Input) (ks : Claims) → Matches c (free k ∷ ks) → (s : Spanned) × (d : Input) × (c ≡ s ∷ d) × (s.token ≡ k) × Matches d ks
 first_free k [] ks h = absurd h
 first_free k (s ∷ c) ks h = (s, c, refl, h.0, h.2)
 
 smalls_by : (found : List Small) (all : Line) (c : Input) (x : Small) (others : List Small) (written : Bool) → all ≡ line_of (found ++ x ∷ others) written
-    → SmallsFit (x ∷ others) → Matches c (smalls_marks (x ∷ others) ++ plain (ending written)) → SmallsWhole found all c
+    → SmallsFit (x ∷ others) → Matches c (smalls_claims (x ∷ others) ++ plain (ending written)) → SmallsWhole found all c
 smalls_by found all c x [] false is fits spelt =
-    let (c1, c2, split, is1, is2) = matches_split c (small_marks x) (plain (t.Newline ∷ [])) (subst (λ v. Matches c (v ++ plain (t.Newline ∷ []))) (append-nil (small_marks x)) spelt) in
+    let (c1, c2, split, is1, is2) = matches_split c (small_claims x) (plain (t.Newline ∷ [])) (subst (λ v. Matches c (v ++ plain (t.Newline ∷ []))) (append-nil (small_claims x)) spelt) in
     (x, c1, c2, small_back x c1 fits.0 is1, inl (closed_back t.Newline _ all c2 is (plain_matches c2 (t.Newline ∷ []) is2)), split)
 smalls_by found all c x [] true is fits spelt =
-    let (c1, c2, split, is1, is2) = matches_split c (small_marks x) (plain (semicolon ∷ t.Newline ∷ []))
-    (subst (λ v. Matches c (v ++ plain (semicolon ∷ t.Newline ∷ []))) (append-nil (small_marks x)) spelt) in
+    let (c1, c2, split, is1, is2) = matches_split c (small_claims x) (plain (semicolon ∷ t.Newline ∷ []))
+    (subst (λ v. Matches c (v ++ plain (semicolon ∷ t.Newline ∷ []))) (append-nil (small_claims x)) spelt) in
     let (s, c3, split2, is3, is4) = first_free semicolon c2 (plain (t.Newline ∷ [])) is2 in
     (x, c1, c2, small_back x c1 fits.0 is1, inr (tt, s ∷ [], c3, (s, is3, refl), inl (closed_back t.Newline _ all c3 is (plain_matches c3 (t.Newline ∷ []) is4)), split2), split)
 smalls_by found all c x (y ∷ ys) written is fits spelt =
-    let later : Marks = smalls_marks (y ∷ ys) ++ plain (ending written) in
-    let (c1, c2, split, is1, is2) = matches_split c (small_marks x) (free semicolon ∷ later)
-    (subst (Matches c) (append_assoc (small_marks x) (free semicolon ∷ smalls_marks (y ∷ ys)) (plain (ending written))) spelt) in
+    let later : Claims = smalls_claims (y ∷ ys) ++ plain (ending written) in
+    let (c1, c2, split, is1, is2) = matches_split c (small_claims x) (free semicolon ∷ later)
+    (subst (Matches c) (append_assoc (small_claims x) (free semicolon ∷ smalls_claims (y ∷ ys)) (plain (ending written))) spelt) in
     let (s, c3, split2, is3, is4) = first_free semicolon c2 later is2 in (
       x,
       c1,
@@ -215,13 +215,13 @@ module _ (expr : Level → Reader Expr) (bound : ℕ) (below : Inside expr bound
 -- ---- whole lines
 
 line_there : (x : Line) (c : Input) → AreSmalls [] x c → IsLine x c
-unfolding line_marks
+unfolding line_claims
 line_there x c h =
     let held : IsLine (line_of (h.first ∷ h.others) h.written) c = (((λ none. cc), h.fits), h.spelt) in
     subst (λ v. IsLine v c) (sym h.whole) held
 
 line_by : (smalls : List Small) (written : Bool) (c : Input) → IsLine (line_of smalls written) c → AreSmalls [] (line_of smalls written) c
-unfolding line_marks
+unfolding line_claims
 line_by [] written c h = absurd (h.0.0 refl)
 line_by (x ∷ xs) written c h = record { first = x; others = xs; written = written; whole = refl; fits = h.0.1; spelt = h.1 }
 

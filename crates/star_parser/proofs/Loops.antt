@@ -19,7 +19,7 @@ use Rattle.star_parser.specs.Readers.{targets_from}
 use Rattle.star_parser.specs.Ends.{reach, Ends}
 use Rattle.star_parser.specs.StatementTables.{first_line}
 use Rattle.star_parser.specs.StatementReaders.{tests, line, parameters, block, for_after, def_after}
-use Rattle.star_parser.specs.Lines.{plain, Matches}
+use Rattle.star_parser.proofs.Claims.{plain, Matches}
 use Rattle.star_parser.proofs.Exact.{Exact, Then, Just, exact_then, exact_ends}
 use Rattle.star_parser.proofs.Steps.{Tok, some_token, exact_expected_then, token_next}
 use Rattle.star_parser.proofs.Rules.{length_after, length_less}
@@ -30,7 +30,7 @@ use Rattle.star_parser.proofs.TestLists.{IsTests, EndsTests, some_tests, tests_e
 use Rattle.star_parser.proofs.LineRules.{IsLine}
 use Rattle.star_parser.proofs.Parameters.{Parameters, IsParameters, some_given, parameters_exact}
 use Rattle.star_parser.proofs.StatementParts.{EachPart}
-use Rattle.star_parser.proofs.Marks.{body_marks, parts_marks, matched_cons, matched_line}
+use Rattle.star_parser.proofs.ClaimLemmas.{body_claims, parts_claims, matched_cons, matched_line}
 use Rattle.star_parser.proofs.Openings.{line_first}
 use Rattle.star_parser.proofs.Blocks.{IsSpelled, EndsStatement, IsBlock}
 use Rattle.star_parser.proofs.Headers.{fronted, front_split, matched_token, TokAt, exact_tok_at, ColonBlock, colon_there, colon_back, some_colon, colon_exact, node_of, of_node}
@@ -65,14 +65,14 @@ pub for_there : (x : Statement) (c : Input) → IsFor x c → IsSpelled x c
 for_there x c (at, c1, c2, (s, is, at_is, one), (targets, c3, c4, r1, (u, c5, c6, (s2, is2, one2), (over, c7, c8, r2, last, split4), split3), split2), split) =
     let (body, b, x_is) = colon_there (made_for at targets over) x c8 last in
     let (are, levelled, spelt) = targets_whole targets c3 r1 in
-    let m6 : Matches c6 (plain (over_rest over) ++ body_marks body) = fronted c6 c7 c8 (tests_spelling over) (t.Mark m.Colon ∷ []) (body_marks body) split4 r2.spelt b.spelt in
-    let m4 : Matches c4 (plain (t.Word w.In ∷ over_rest over) ++ body_marks body) = matched_token c4 c5 c6 (t.Word w.In) s2 (plain (over_rest over) ++ body_marks body) split3 one2 is2 m6 in
-    let m2 : Matches c2 (plain (tests_spelling targets ++ t.Word w.In ∷ over_rest over) ++ body_marks body) =
-    fronted c2 c3 c4 (tests_spelling targets) (t.Word w.In ∷ over_rest over) (body_marks body) split2 spelt m4 in
+    let m6 : Matches c6 (plain (over_rest over) ++ body_claims body) = fronted c6 c7 c8 (tests_spelling over) (t.Mark m.Colon ∷ []) (body_claims body) split4 r2.spelt b.spelt in
+    let m4 : Matches c4 (plain (t.Word w.In ∷ over_rest over) ++ body_claims body) = matched_token c4 c5 c6 (t.Word w.In) s2 (plain (over_rest over) ++ body_claims body) split3 one2 is2 m6 in
+    let m2 : Matches c2 (plain (tests_spelling targets ++ t.Word w.In ∷ over_rest over) ++ body_claims body) =
+    fronted c2 c3 c4 (tests_spelling targets) (t.Word w.In ∷ over_rest over) (body_claims body) split2 spelt m4 in
     of_node (Statement-F.For at targets over body) x c (tree.rolls-For at targets over body ∙ sym x_is) (are, levelled, r2.fits, b.fits) b.each
-    (subst (λ v. Matches v (parts_marks (Statement-F.For at targets over body))) (sym (split ∙ ap (λ v. v ++ c2) one)) (is, at_is, m2))
+    (subst (λ v. Matches v (parts_claims (Statement-F.For at targets over body))) (sym (split ∙ ap (λ v. v ++ c2) one)) (is, at_is, m2))
 
-for_by : (x : Statement) (c more : Input) (d : Statement-F Statement) → roll-Statement d ≡ x → StatementFits d → EachPart IsStatement d → Matches c (parts_marks d)
+for_by : (x : Statement) (c more : Input) (d : Statement-F Statement) → roll-Statement d ≡ x → StatementFits d → EachPart IsStatement d → Matches c (parts_claims d)
     → next (c ++ more) ≡ Some (t.Word w.For) → IsFor x c
 for_by x c more (Statement-F.Line l) is fits each spelt look =
     let (s, c', split, opens) = line_first l c fits spelt in
@@ -80,10 +80,10 @@ for_by x c more (Statement-F.Line l) is fits each spelt look =
 for_by x c more (Statement-F.If at first others other) is fits each spelt look =
     absurd (let a : Some (t.Word w.If) ≡ Some (t.Word w.For) = sym (header_next c more at (t.Word w.If) _ spelt) ∙ look in cc)
 for_by x c more (Statement-F.For at targets over body) is fits each spelt look =
-    let (s, c2, split, s_is, at_is, m2) = matched_line c at (t.Word w.For) (plain (tests_spelling targets ++ t.Word w.In ∷ over_rest over) ++ body_marks body) spelt in
-    let (c3, c4, split2, is3, m4) = front_split c2 (tests_spelling targets) (t.Word w.In ∷ over_rest over) (body_marks body) m2 in
-    let (s2, c6, split3, is2, m6) = matched_cons c4 (t.Word w.In) (plain (over_rest over) ++ body_marks body) m4 in
-    let (c7, c8, split4, is7, m8) = front_split c6 (tests_spelling over) (t.Mark m.Colon ∷ []) (body_marks body) m6 in (
+    let (s, c2, split, s_is, at_is, m2) = matched_line c at (t.Word w.For) (plain (tests_spelling targets ++ t.Word w.In ∷ over_rest over) ++ body_claims body) spelt in
+    let (c3, c4, split2, is3, m4) = front_split c2 (tests_spelling targets) (t.Word w.In ∷ over_rest over) (body_claims body) m2 in
+    let (s2, c6, split3, is2, m6) = matched_cons c4 (t.Word w.In) (plain (over_rest over) ++ body_claims body) m4 in
+    let (c7, c8, split4, is7, m8) = front_split c6 (tests_spelling over) (t.Mark m.Colon ∷ []) (body_claims body) m6 in (
       at,
       s ∷ [],
       c2,
@@ -167,15 +167,15 @@ pub def_there : (x : Statement) (c : Input) → IsDef x c → IsSpelled x c
 def_there x c (at, c1, c2, (s, is, at_is, one), (name, c3, c4, (s2, is2, one2), (u, c5, c6, (s3, is3, one3), (given, c7, c8, r, last, split4), split3), split2), split) =
     let (body, b, x_is) = colon_there (made_def at name given) x c8 last in
     let def : Definition Statement = record { name = name; required = given.0; defaults = given.1; comma = given.2; body = body } in
-    let m6 : Matches c6 (plain (given_rest given) ++ body_marks body) = subst (λ v. Matches c6 (plain v ++ body_marks body)) (given_joined given)
-    (fronted c6 c7 c8 (given_spelling given) (t.Mark m.Colon ∷ []) (body_marks body) split4 r.spelt b.spelt) in
-    let m4 : Matches c4 (plain (t.Mark m.OpenRound ∷ given_rest given) ++ body_marks body) = matched_token c4 c5 c6 (t.Mark m.OpenRound) s3 (plain (given_rest given) ++ body_marks body) split3 one3 is3 m6 in
-    let m2 : Matches c2 (plain (t.Name name ∷ t.Mark m.OpenRound ∷ given_rest given) ++ body_marks body) =
-    matched_token c2 c3 c4 (t.Name name) s2 (plain (t.Mark m.OpenRound ∷ given_rest given) ++ body_marks body) split2 one2 is2 m4 in
+    let m6 : Matches c6 (plain (given_rest given) ++ body_claims body) = subst (λ v. Matches c6 (plain v ++ body_claims body)) (given_joined given)
+    (fronted c6 c7 c8 (given_spelling given) (t.Mark m.Colon ∷ []) (body_claims body) split4 r.spelt b.spelt) in
+    let m4 : Matches c4 (plain (t.Mark m.OpenRound ∷ given_rest given) ++ body_claims body) = matched_token c4 c5 c6 (t.Mark m.OpenRound) s3 (plain (given_rest given) ++ body_claims body) split3 one3 is3 m6 in
+    let m2 : Matches c2 (plain (t.Name name ∷ t.Mark m.OpenRound ∷ given_rest given) ++ body_claims body) =
+    matched_token c2 c3 c4 (t.Name name) s2 (plain (t.Mark m.OpenRound ∷ given_rest given) ++ body_claims body) split2 one2 is2 m4 in
     of_node (Statement-F.Def at def) x c (tree.rolls-Def at def ∙ sym x_is) (r.levelled, r.comma_fits, b.fits) b.each
-    (subst (λ v. Matches v (parts_marks (Statement-F.Def at def))) (sym (split ∙ ap (λ v. v ++ c2) one)) (is, at_is, m2))
+    (subst (λ v. Matches v (parts_claims (Statement-F.Def at def))) (sym (split ∙ ap (λ v. v ++ c2) one)) (is, at_is, m2))
 
-def_by : (x : Statement) (c more : Input) (d : Statement-F Statement) → roll-Statement d ≡ x → StatementFits d → EachPart IsStatement d → Matches c (parts_marks d)
+def_by : (x : Statement) (c more : Input) (d : Statement-F Statement) → roll-Statement d ≡ x → StatementFits d → EachPart IsStatement d → Matches c (parts_claims d)
     → next (c ++ more) ≡ Some (t.Word w.Def) → IsDef x c
 def_by x c more (Statement-F.Line l) is fits each spelt look =
     let (s, c', split, opens) = line_first l c fits spelt in
@@ -186,11 +186,11 @@ def_by x c more (Statement-F.For at targets over body) is fits each spelt look =
     absurd (let a : Some (t.Word w.For) ≡ Some (t.Word w.Def) = sym (header_next c more at (t.Word w.For) _ spelt) ∙ look in cc)
 def_by x c more (Statement-F.Def at def) is fits each spelt look =
     let given : Parameters = (def.required, def.defaults, def.comma) in
-    let (s, c2, split, s_is, at_is, m2) = matched_line c at (t.Word w.Def) (plain (t.Name def.name ∷ t.Mark m.OpenRound ∷ given_rest given) ++ body_marks def.body) spelt in
-    let (s2, c4, split2, is2, m4) = matched_cons c2 (t.Name def.name) (plain (t.Mark m.OpenRound ∷ given_rest given) ++ body_marks def.body) m2 in
-    let (s3, c6, split3, is3, m6) = matched_cons c4 (t.Mark m.OpenRound) (plain (given_rest given) ++ body_marks def.body) m4 in
-    let (c7, c8, split4, is7, m8) = front_split c6 (given_spelling given) (t.Mark m.Colon ∷ []) (body_marks def.body)
-    (subst (λ v. Matches c6 (plain v ++ body_marks def.body)) (sym (given_joined given)) m6) in (
+    let (s, c2, split, s_is, at_is, m2) = matched_line c at (t.Word w.Def) (plain (t.Name def.name ∷ t.Mark m.OpenRound ∷ given_rest given) ++ body_claims def.body) spelt in
+    let (s2, c4, split2, is2, m4) = matched_cons c2 (t.Name def.name) (plain (t.Mark m.OpenRound ∷ given_rest given) ++ body_claims def.body) m2 in
+    let (s3, c6, split3, is3, m6) = matched_cons c4 (t.Mark m.OpenRound) (plain (given_rest given) ++ body_claims def.body) m4 in
+    let (c7, c8, split4, is7, m8) = front_split c6 (given_spelling given) (t.Mark m.Colon ∷ []) (body_claims def.body)
+    (subst (λ v. Matches c6 (plain v ++ body_claims def.body)) (sym (given_joined given)) m6) in (
       at,
       s ∷ [],
       c2,

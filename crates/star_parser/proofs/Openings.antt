@@ -17,11 +17,11 @@ use Rattle.star_syntax.specs.Spelling.{Tokens, expr_spelling, tests_spelling, ki
 use Rattle.star_syntax.specs.Levels.{IsLevelled, KindFits, LineFits, IsStatement}
 use Rattle.star_parser.specs.Reading.{Input}
 use Rattle.star_parser.specs.Starts.{starts}
-use Rattle.star_parser.specs.Lines.{Marks, line_marks, statement_marks, Matches}
+use Rattle.star_parser.proofs.Claims.{Claims, line_claims, statement_claims, Matches}
 use Rattle.star_parser.proofs.Rules.{kinds_cons}
 use Rattle.star_parser.proofs.First.{expr_starts}
 use Rattle.star_parser.proofs.StatementParts.{statement_parts}
-use Rattle.star_parser.proofs.Marks.{marks_of, tokens_line, matched_kinds, matched_line}
+use Rattle.star_parser.proofs.ClaimLemmas.{claims_of_parts, tokens_line, matched_kinds, matched_line}
 
 -- a line may begin with this token, so it is none of those that stand between statements
 pub record Opens (k : Token) : Type 0 where
@@ -114,29 +114,29 @@ unfolding line_spelling
 line_begun line fits = begun_on (separated m.Semicolon (map small_spelling line.smalls) ++ if_written line.semicolon m.Semicolon) _
     (begun_on (separated m.Semicolon (map small_spelling line.smalls)) _ (smalls_begun line.smalls fits.0 fits.1))
 
-pub line_first : (line : Line) (c : Input) → LineFits line → Matches c (line_marks line) → (s : Spanned) × (c' : Input) × (c ≡ s ∷ c') × OpensLine s.token
+pub line_first : (line : Line) (c : Input) → LineFits line → Matches c (line_claims line) → (s : Spanned) × (c' : Input) × (c ≡ s ∷ c') × OpensLine s.token
 line_first line c fits spelt =
     let b = line_begun line fits in
-    let (s, c', split, is, _) = kinds_cons c b.first b.others (matched_kinds c (line_marks line) spelt ∙ tokens_line line ∙ b.whole) in
+    let (s, c', split, is, _) = kinds_cons c b.first b.others (matched_kinds c (line_claims line) spelt ∙ tokens_line line ∙ b.whole) in
     (s, c', split, subst OpensLine (sym is) b.opens)
 
 -- ---- statements
 
-header_first : (c : Input) (at : ℕ) (k : Token) (x : Marks) → Opens k → Matches c ((k, Some at) ∷ x) → (s : Spanned) × (c' : Input) × (c ≡ s ∷ c') × Opens s.token
+header_first : (c : Input) (at : ℕ) (k : Token) (x : Claims) → Opens k → Matches c ((k, Some at) ∷ x) → (s : Spanned) × (c' : Input) × (c ≡ s ∷ c') × Opens s.token
 header_first c at k x opens h = let (s, c', split, is, _, _) = matched_line c at k x h in (s, c', split, subst Opens (sym is) opens)
 
-node_first : (d : Statement-F Statement) (c : Input) → IsStatement (roll-Statement d) → Matches c (statement_marks (roll-Statement d)) → (s : Spanned) × (c' : Input) × (c ≡ s ∷ c') × Opens s.token
+node_first : (d : Statement-F Statement) (c : Input) → IsStatement (roll-Statement d) → Matches c (statement_claims (roll-Statement d)) → (s : Spanned) × (c' : Input) × (c ≡ s ∷ c') × Opens s.token
 node_first (Statement-F.Line line) c levelled spelt =
-    let (s, c', split, opens) = line_first line c (statement_parts (Statement-F.Line line) levelled).0 (subst (Matches c) (marks_of (Statement-F.Line line)) spelt) in (s, c', split, opens.opens)
+    let (s, c', split, opens) = line_first line c (statement_parts (Statement-F.Line line) levelled).0 (subst (Matches c) (claims_of_parts (Statement-F.Line line)) spelt) in (s, c', split, opens.opens)
 node_first (Statement-F.If at first more other) c levelled spelt =
     header_first c at (t.Word w.If) _ (record { no_elif = λ e. cc; no_else = λ e. cc; no_newline = λ e. cc; no_indent = λ e. cc; no_dedent = λ e. cc; no_end = λ e. cc })
-    (subst (Matches c) (marks_of (Statement-F.If at first more other)) spelt)
+    (subst (Matches c) (claims_of_parts (Statement-F.If at first more other)) spelt)
 node_first (Statement-F.For at targets over body) c levelled spelt =
     header_first c at (t.Word w.For) _ (record { no_elif = λ e. cc; no_else = λ e. cc; no_newline = λ e. cc; no_indent = λ e. cc; no_dedent = λ e. cc; no_end = λ e. cc })
-    (subst (Matches c) (marks_of (Statement-F.For at targets over body)) spelt)
+    (subst (Matches c) (claims_of_parts (Statement-F.For at targets over body)) spelt)
 node_first (Statement-F.Def at def) c levelled spelt =
     header_first c at (t.Word w.Def) _ (record { no_elif = λ e. cc; no_else = λ e. cc; no_newline = λ e. cc; no_indent = λ e. cc; no_dedent = λ e. cc; no_end = λ e. cc })
-    (subst (Matches c) (marks_of (Statement-F.Def at def)) spelt)
+    (subst (Matches c) (claims_of_parts (Statement-F.Def at def)) spelt)
 
-pub statement_first : (x : Statement) (c : Input) → IsStatement x → Matches c (statement_marks x) → (s : Spanned) × (c' : Input) × (c ≡ s ∷ c') × Opens s.token
-statement_first x c levelled spelt = node_first (out-Statement x) c (subst IsStatement (sym (roll-out-Statement x)) levelled) (subst (λ v. Matches c (statement_marks v)) (sym (roll-out-Statement x)) spelt)
+pub statement_first : (x : Statement) (c : Input) → IsStatement x → Matches c (statement_claims x) → (s : Spanned) × (c' : Input) × (c ≡ s ∷ c') × Opens s.token
+statement_first x c levelled spelt = node_first (out-Statement x) c (subst IsStatement (sym (roll-out-Statement x)) levelled) (subst (λ v. Matches c (statement_claims v)) (sym (roll-out-Statement x)) spelt)

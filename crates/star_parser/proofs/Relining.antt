@@ -20,11 +20,12 @@ use Rattle.star_syntax.specs.Levels.{KindFits, LineFits, BlockFits, BranchFits, 
 use Rattle.star_syntax.proofs.StatementLemmas.{statement_spells}
 use Rattle.star_parser.specs.Reading.{Input, kinds}
 use Rattle.star_parser.specs.StatementTables.{first_line}
-use Rattle.star_parser.specs.Lines.{free, plain, small_marks, smalls_marks, line_marks, branch_header, else_header, for_header, def_header, statement_marks, module_marks, Matches, unlined_small, unlined_line, unlined_block, unlined_branch, unlined_else, unlined_layer, unlined_statement, unlined}
+use Rattle.star_parser.specs.Lines.{unlined_small, unlined_line, unlined_block, unlined_branch, unlined_else, unlined_layer, unlined_statement, unlined}
+use Rattle.star_parser.proofs.Claims.{free, plain, small_claims, smalls_claims, line_claims, branch_header, else_header, for_header, def_header, statement_claims, module_claims, Matches}
 use Rattle.star_parser.proofs.Rules.{kinds_split, kinds_cons}
 use Rattle.star_parser.proofs.LineMatches.{matches_plain}
 use Rattle.star_parser.proofs.StatementParts.{EachBlock, EachBranch, EachElse, EachPart, block_in, branches_in, else_in, induct_statement, statement_parts, statement_made}
-use Rattle.star_parser.proofs.Marks.{body_marks, case_marks, otherwise_marks, if_marks, parts_marks, marks_of, for_joined, def_joined, matched_joined, first_matched}
+use Rattle.star_parser.proofs.ClaimLemmas.{body_claims, case_claims, otherwise_claims, if_claims, parts_claims, claims_of_parts, for_joined, def_joined, matched_joined, first_matched}
 
 -- ---- lines
 
@@ -35,12 +36,12 @@ map_none f (x ∷ xs) h = absurd cc
 on_line : ℕ → Small → Small
 on_line line x = record { line = line; kind = x.kind }
 
-small_relined : (x : Small) (c : Input) → kinds c ≡ small_spelling x → Matches c (small_marks (on_line (first_line c) x))
+small_relined : (x : Small) (c : Input) → kinds c ≡ small_spelling x → Matches c (small_claims (on_line (first_line c) x))
 unfolding on_line small_spelling
 small_relined x c h = first_matched c (plain (small_spelling x)) (matches_plain c (small_spelling x) h)
 
 more_relined : (xs : List Small) (c : Input) → kinds c ≡ flat_map (λ y. t.Mark m.Semicolon ∷ y) (map small_spelling xs)
-    → (ys : List Small) × Matches c (flat_map (λ y. free (t.Mark m.Semicolon) ∷ small_marks y) ys) × (map unlined_small ys ≡ map unlined_small xs)
+    → (ys : List Small) × Matches c (flat_map (λ y. free (t.Mark m.Semicolon) ∷ small_claims y) ys) × (map unlined_small ys ≡ map unlined_small xs)
 unfolding on_line
 more_relined [] c h = ([], matches_plain c [] h, refl)
 more_relined (x ∷ xs) c h =
@@ -49,13 +50,13 @@ more_relined (x ∷ xs) c h =
     let (ys, found, same) = more_relined xs c2 is2 in
     let y : Small = on_line (first_line c1) x in (
       y ∷ ys,
-      matched_joined c (s ∷ c1) c2 (free (t.Mark m.Semicolon) ∷ small_marks y) (flat_map (λ y. free (t.Mark m.Semicolon) ∷ small_marks y) ys)
+      matched_joined c (s ∷ c1) c2 (free (t.Mark m.Semicolon) ∷ small_claims y) (flat_map (λ y. free (t.Mark m.Semicolon) ∷ small_claims y) ys)
           (split ∙ ap (λ v. s ∷ v) split2) (is, tt, small_relined x c1 is1) found,
       ap (λ v. unlined_small x ∷ v) same,
     )
 
 smalls_relined : (xs : List Small) (c : Input) → kinds c ≡ separated m.Semicolon (map small_spelling xs)
-    → (ys : List Small) × Matches c (smalls_marks ys) × (map unlined_small ys ≡ map unlined_small xs)
+    → (ys : List Small) × Matches c (smalls_claims ys) × (map unlined_small ys ≡ map unlined_small xs)
 unfolding on_line
 smalls_relined [] c h = ([], matches_plain c [] h, refl)
 smalls_relined (x ∷ xs) c h =
@@ -63,19 +64,19 @@ smalls_relined (x ∷ xs) c h =
     let (ys, found, same) = more_relined xs c2 is2 in
     let y : Small = on_line (first_line c1) x in (
       y ∷ ys,
-      matched_joined c c1 c2 (small_marks y) (flat_map (λ y. free (t.Mark m.Semicolon) ∷ small_marks y) ys) split (small_relined x c1 is1) found,
+      matched_joined c c1 c2 (small_claims y) (flat_map (λ y. free (t.Mark m.Semicolon) ∷ small_claims y) ys) split (small_relined x c1 is1) found,
       ap (λ v. unlined_small x ∷ v) same,
     )
 
-line_relined : (line : Line) (c : Input) → kinds c ≡ line_spelling line → (other : Line) × Matches c (line_marks other) × (unlined_line other ≡ unlined_line line)
-unfolding line_marks line_spelling
+line_relined : (line : Line) (c : Input) → kinds c ≡ line_spelling line → (other : Line) × Matches c (line_claims other) × (unlined_line other ≡ unlined_line line)
+unfolding line_claims line_spelling
 line_relined line c h =
     let rest : Tokens = if_written line.semicolon m.Semicolon ++ t.Newline ∷ [] in
     let front : Tokens = separated m.Semicolon (map small_spelling line.smalls) in
     let (c1, c2, split, is1, is2) = kinds_split c front rest (h ∙ append_assoc front (if_written line.semicolon m.Semicolon) (t.Newline ∷ [])) in
     let (ys, found, same) = smalls_relined line.smalls c1 is1 in (
       record { smalls = ys; semicolon = line.semicolon },
-      matched_joined c c1 c2 (smalls_marks ys) (plain rest) split found (matches_plain c2 rest is2),
+      matched_joined c c1 c2 (smalls_claims ys) (plain rest) split found (matches_plain c2 rest is2),
       ap (λ v. let p : Line = record { smalls = v; semicolon = line.semicolon } in p) same,
     )
 
@@ -159,14 +160,14 @@ unlined_of (Statement-F.Def at def) = layer_unlined (Statement-F.Def at def) ∙
 pub record Relined (x : Statement) (c : Input) : Type 0 where
   pub tree : Statement
   pub levelled : IsStatement tree
-  pub spelt : Matches c (statement_marks tree)
+  pub spelt : Matches c (statement_claims tree)
   pub same : unlined_statement tree ≡ unlined_statement x
 
 -- the same of the statements of a block
 record RelinedList (xs : List Statement) (c : Input) : Type 0 where
   pub trees : List Statement
   pub levelled : AllByRecursion IsStatement trees
-  pub spelt : Matches c (flat_map statement_marks trees)
+  pub spelt : Matches c (flat_map statement_claims trees)
   pub same : map unlined_statement trees ≡ map unlined_statement xs
 
 -- the same of a block
@@ -174,7 +175,7 @@ record RelinedBody (body : Block Statement) (c : Input) : Type 0 where
   pub tree : Block Statement
   pub fits : BlockFits tree
   pub each : EachBlock IsStatement tree
-  pub spelt : Matches c (body_marks tree)
+  pub spelt : Matches c (body_claims tree)
   pub same : body_unlined tree ≡ body_unlined body
 
 -- the same of a branch
@@ -182,7 +183,7 @@ record RelinedCase (word : Keyword) (branch : Branch Statement) (c : Input) : Ty
   pub tree : Branch Statement
   pub fits : BranchFits tree
   pub each : EachBranch IsStatement tree
-  pub spelt : Matches c (case_marks word tree)
+  pub spelt : Matches c (case_claims word tree)
   pub same : case_unlined tree ≡ case_unlined branch
 
 -- the same of branches after `elif`
@@ -190,7 +191,7 @@ record RelinedCases (xs : List (Branch Statement)) (c : Input) : Type 0 where
   pub trees : List (Branch Statement)
   pub fits : AllByRecursion BranchFits trees
   pub each : AllByRecursion (EachBranch IsStatement) trees
-  pub spelt : Matches c (flat_map (case_marks w.Elif) trees)
+  pub spelt : Matches c (flat_map (case_claims w.Elif) trees)
   pub same : map case_unlined trees ≡ map case_unlined xs
 
 -- the same of `else` and its block
@@ -198,7 +199,7 @@ record RelinedElse (other : Option (Block Statement)) (c : Input) : Type 0 where
   pub tree : Option (Block Statement)
   pub fits : ElseFits tree
   pub each : EachElse IsStatement tree
-  pub spelt : Matches c (otherwise_marks tree)
+  pub spelt : Matches c (otherwise_claims tree)
   pub same : otherwise_unlined tree ≡ otherwise_unlined other
 
 Relines : Statement → Type 0
@@ -214,7 +215,7 @@ list_relined (x ∷ xs) relines c levelled h =
     record {
       trees = y.tree ∷ ys.trees;
       levelled = (y.levelled, ys.levelled);
-      spelt = matched_joined c c1 c2 (statement_marks y.tree) (flat_map statement_marks ys.trees) split y.spelt ys.spelt;
+      spelt = matched_joined c c1 c2 (statement_claims y.tree) (flat_map statement_claims ys.trees) split y.spelt ys.spelt;
       same = ap (λ v. v ∷ map unlined_statement ys.trees) y.same ∙ ap (λ v. unlined_statement x ∷ v) ys.same;
     }
 
@@ -230,8 +231,8 @@ body_relined (Indented xs) relines c fits each h =
       tree = Indented ys.trees;
       fits = λ none. fits (map_none unlined_statement xs (sym ys.same ∙ ap (map unlined_statement) none));
       each = ys.levelled;
-      spelt = matched_joined c c1 c2 (plain (t.Newline ∷ t.Indent ∷ [])) (flat_map statement_marks ys.trees ++ plain (t.Dedent ∷ [])) split (matches_plain c1 _ is1)
-          (matched_joined c2 c3 c4 (flat_map statement_marks ys.trees) (plain (t.Dedent ∷ [])) split2 ys.spelt (matches_plain c4 _ is4));
+      spelt = matched_joined c c1 c2 (plain (t.Newline ∷ t.Indent ∷ [])) (flat_map statement_claims ys.trees ++ plain (t.Dedent ∷ [])) split (matches_plain c1 _ is1)
+          (matched_joined c2 c3 c4 (flat_map statement_claims ys.trees) (plain (t.Dedent ∷ [])) split2 ys.spelt (matches_plain c4 _ is4));
       same = ap (λ v. let p : Block Statement = Indented v in p) ys.same;
     }
 
@@ -246,7 +247,7 @@ case_relined word branch relines c fits each h =
       tree = record { condition = branch.condition; body = b.tree };
       fits = (fits.0, b.fits);
       each = b.each;
-      spelt = matched_joined c c1 c2 (plain head) (body_marks b.tree) split (matches_plain c1 head is1) b.spelt;
+      spelt = matched_joined c c1 c2 (plain head) (body_claims b.tree) split (matches_plain c1 head is1) b.spelt;
       same = ap (λ v. let p : Branch Statement = record { condition = branch.condition; body = v } in p) b.same;
     }
 
@@ -261,7 +262,7 @@ cases_relined (x ∷ xs) relines c fits each h =
       trees = y.tree ∷ ys.trees;
       fits = (y.fits, ys.fits);
       each = (y.each, ys.each);
-      spelt = matched_joined c c1 c2 (case_marks w.Elif y.tree) (flat_map (case_marks w.Elif) ys.trees) split y.spelt ys.spelt;
+      spelt = matched_joined c c1 c2 (case_claims w.Elif y.tree) (flat_map (case_claims w.Elif) ys.trees) split y.spelt ys.spelt;
       same = ap (λ v. v ∷ map case_unlined ys.trees) y.same ∙ ap (λ v. case_unlined x ∷ v) ys.same;
     }
 
@@ -274,16 +275,16 @@ else_relined (Some body) relines c fits each h =
       tree = Some b.tree;
       fits = b.fits;
       each = b.each;
-      spelt = matched_joined c c1 c2 (plain else_header) (body_marks b.tree) split (matches_plain c1 else_header is1) b.spelt;
+      spelt = matched_joined c c1 c2 (plain else_header) (body_claims b.tree) split (matches_plain c1 else_header is1) b.spelt;
       same = ap (λ v. Some v) b.same;
     }
 
 -- a node of relined parts
-node_relined : (d other : Statement-F Statement) (c : Input) → StatementFits other → EachPart IsStatement other → Matches c (parts_marks other) → parts_unlined other ≡ parts_unlined d → Relined (roll-Statement d) c
+node_relined : (d other : Statement-F Statement) (c : Input) → StatementFits other → EachPart IsStatement other → Matches c (parts_claims other) → parts_unlined other ≡ parts_unlined d → Relined (roll-Statement d) c
 node_relined d other c fits each found same = record {
   tree = roll-Statement other;
   levelled = statement_made other fits each;
-  spelt = subst (Matches c) (sym (marks_of other)) found;
+  spelt = subst (Matches c) (sym (claims_of_parts other)) found;
   same = unlined_of other ∙ ap roll-Statement same ∙ sym (unlined_of d);
 }
 
@@ -297,10 +298,10 @@ step (Statement-F.If at first more other) relines c fits each h =
     let b = case_relined w.If first relines.0 c1 fits.0 each.0 is1 in
     let bs = cases_relined more relines.1 c3 fits.1 each.1 is3 in
     let o = else_relined other relines.2 c4 fits.2 each.2 is4 in
-    let whole : Matches c (if_marks b.tree bs.trees o.tree) = matched_joined c c1 c2 (case_marks w.If b.tree) (flat_map (case_marks w.Elif) bs.trees ++ otherwise_marks o.tree) split b.spelt
-    (matched_joined c2 c3 c4 (flat_map (case_marks w.Elif) bs.trees) (otherwise_marks o.tree) split2 bs.spelt o.spelt) in
+    let whole : Matches c (if_claims b.tree bs.trees o.tree) = matched_joined c c1 c2 (case_claims w.If b.tree) (flat_map (case_claims w.Elif) bs.trees ++ otherwise_claims o.tree) split b.spelt
+    (matched_joined c2 c3 c4 (flat_map (case_claims w.Elif) bs.trees) (otherwise_claims o.tree) split2 bs.spelt o.spelt) in
     node_relined (Statement-F.If at first more other) (Statement-F.If (first_line c) b.tree bs.trees o.tree) c (b.fits, bs.fits, o.fits) (b.each, bs.each, o.each)
-    (first_matched c (if_marks b.tree bs.trees o.tree) whole)
+    (first_matched c (if_claims b.tree bs.trees o.tree) whole)
     (ap (λ v. Statement-F.If 0 v (map case_unlined bs.trees) (otherwise_unlined o.tree)) b.same ∙ ap (λ v. Statement-F.If 0 (case_unlined first) v (otherwise_unlined o.tree)) bs.same
     ∙ ap (λ v. Statement-F.If 0 (case_unlined first) (map case_unlined more) v) o.same)
 step (Statement-F.For at targets over body) relines c fits each h =
@@ -308,7 +309,7 @@ step (Statement-F.For at targets over body) relines c fits each h =
     let (c1, c2, split, is1, is2) = kinds_split c head (body_spelling body) (h ∙ sym (for_joined (tests_spelling targets) (tests_spelling over) (body_spelling body))) in
     let b = body_relined body relines c2 fits.3 each is2 in
     node_relined (Statement-F.For at targets over body) (Statement-F.For (first_line c) targets over b.tree) c (fits.0, fits.1, fits.2, b.fits) b.each
-    (first_matched c (plain head ++ body_marks b.tree) (matched_joined c c1 c2 (plain head) (body_marks b.tree) split (matches_plain c1 head is1) b.spelt))
+    (first_matched c (plain head ++ body_claims b.tree) (matched_joined c c1 c2 (plain head) (body_claims b.tree) split (matches_plain c1 head is1) b.spelt))
     (ap (λ v. Statement-F.For 0 targets over v) b.same)
 step (Statement-F.Def at def) relines c fits each h =
     let head : Tokens = def_header def in
@@ -316,7 +317,7 @@ step (Statement-F.Def at def) relines c fits each h =
     (h ∙ sym (def_joined def.name (parameters_spelling def.required def.defaults) (if_written def.comma m.Comma) (body_spelling def.body))) in
     let b = body_relined def.body relines c2 fits.2 each is2 in
     node_relined (Statement-F.Def at def) (Statement-F.Def (first_line c) (def_unlined def b.tree)) c (fits.0, fits.1, b.fits) b.each
-    (first_matched c (plain head ++ body_marks b.tree) (matched_joined c c1 c2 (plain head) (body_marks b.tree) split (matches_plain c1 head is1) b.spelt))
+    (first_matched c (plain head ++ body_claims b.tree) (matched_joined c c1 c2 (plain head) (body_claims b.tree) split (matches_plain c1 head is1) b.spelt))
     (ap (λ v. Statement-F.Def 0 (def_unlined def v)) b.same)
 
 pub relined : (x : Statement) (c : Input) → IsStatement x → kinds c ≡ statement_spelling x → Relined x c
@@ -329,18 +330,18 @@ relined = induct_statement Relines (λ d relines c levelled h. let (fits, each) 
 pub record RelinedModule (cell : Module) (c : Input) : Type 0 where
   pub tree : Module
   pub levelled : WellLevelled tree
-  pub spelt : Matches c (module_marks tree)
+  pub spelt : Matches c (module_claims tree)
   pub same : unlined tree ≡ unlined cell
 
 pub module_relined : (cell : Module) (c : Input) → WellLevelled cell → kinds c ≡ spelling cell → RelinedModule cell c
-unfolding Relines WellLevelled module_marks spelling unlined
+unfolding Relines WellLevelled module_claims spelling unlined
 module_relined cell c levelled h =
     let (c1, c2, split, is1, is2) = kinds_split c (flat_map statement_spelling cell.statements) (t.End ∷ []) h in
     let ys = list_relined cell.statements (all_relined cell.statements) c1 levelled is1 in
     record {
       tree = record { statements = ys.trees };
       levelled = ys.levelled;
-      spelt = matched_joined c c1 c2 (flat_map statement_marks ys.trees) (plain (t.End ∷ [])) split ys.spelt (matches_plain c2 _ is2);
+      spelt = matched_joined c c1 c2 (flat_map statement_claims ys.trees) (plain (t.End ∷ [])) split ys.spelt (matches_plain c2 _ is2);
       same = ap (λ v. let p : Module = record { statements = v } in p) ys.same;
     }
   where

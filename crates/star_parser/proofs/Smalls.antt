@@ -23,7 +23,7 @@ use Rattle.star_parser.specs.Reading.{Input, Reader, and_then, ◌>>=◌, ◌>>�
 use Rattle.star_parser.specs.Tables.{is_mark, eat_word}
 use Rattle.star_parser.specs.StatementTables.{is_newline, ends_small, augmented_op, first_line}
 use Rattle.star_parser.specs.StatementReaders.{are_targets, place_op, tests_after, tests, returned, assigned, augmented, assigned_by, listed, phrase_by, phrase, small_kind, small}
-use Rattle.star_parser.specs.Lines.{Matches, small_marks}
+use Rattle.star_parser.proofs.Claims.{Matches, small_claims}
 use Rattle.star_parser.specs.Starts.{starts}
 use Rattle.star_parser.specs.Ends.{reach, Ends}
 use Rattle.star_parser.proofs.Exact.{Exact, Then, Just, exact_then, exact_by, exact_same, exact_pure}
@@ -487,13 +487,13 @@ abbrev pub IsSmall : Small → Input → Type 0
 IsSmall x c = SmallOn (first_line c) x c
 
 -- the tokens of a small statement are those that it claims
-pub small_there : (x : Small) (c : Input) → IsSmall x c → KindFits x.kind × Matches c (small_marks x)
+pub small_there : (x : Small) (c : Input) → IsSmall x c → KindFits x.kind × Matches c (small_claims x)
 unfolding small_spelling
 small_there x c (h, at) =
     (h.fits, matches_first x.line c (kind_spelling x.kind) (λ none. kind_some x.kind c h (kinds_none c (h.spelt ∙ none))) h.spelt at)
 
 -- tokens that a small statement claims spell it
-pub small_back : (x : Small) (c : Input) → KindFits x.kind → Matches c (small_marks x) → IsSmall x c
+pub small_back : (x : Small) (c : Input) → KindFits x.kind → Matches c (small_claims x) → IsSmall x c
 unfolding small_spelling
 small_back x c fits h = by_spelling (kind_spelling x.kind) refl
   where

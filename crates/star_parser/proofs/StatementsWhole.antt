@@ -14,13 +14,13 @@ use Rattle.star_parser.specs.Reading.{Input, Reader, ◌>>=◌, pure, next}
 use Rattle.star_parser.specs.Tables.{eat_word}
 use Rattle.star_parser.specs.StatementTables.{first_line}
 use Rattle.star_parser.specs.StatementReaders.{line, if_after, for_after, def_after, one, statement}
-use Rattle.star_parser.specs.Lines.{Matches}
+use Rattle.star_parser.proofs.Claims.{Matches}
 use Rattle.star_parser.proofs.Exact.{Exact, Then, Just, exact_by}
 use Rattle.star_parser.proofs.Steps.{exact_eat_word, exact_last}
 use Rattle.star_parser.proofs.First.{last_there, last_back}
 use Rattle.star_parser.proofs.Bracketed.{Any, Inside}
 use Rattle.star_parser.proofs.LineRules.{IsLine, line_exact}
-use Rattle.star_parser.proofs.Marks.{parts_marks}
+use Rattle.star_parser.proofs.ClaimLemmas.{parts_claims}
 use Rattle.star_parser.proofs.Blocks.{IsSpelled, EndsStatement}
 use Rattle.star_parser.proofs.Headers.{node_of, of_node}
 use Rattle.star_parser.proofs.Branches.{IsIf, if_there, if_back, if_exact, header_next}
@@ -40,7 +40,7 @@ lined_there x c h =
     let (l, r, x_is) = last_there IsLine made_line x c h in
     of_node (Statement-F.Line l) x c (tree.rolls-Line l ∙ sym x_is) r.0 tt r.1
 
-lined_by : (x : Statement) (c more : Input) (d : Statement-F Statement) → roll-Statement d ≡ x → StatementFits d → Matches c (parts_marks d)
+lined_by : (x : Statement) (c more : Input) (d : Statement-F Statement) → roll-Statement d ≡ x → StatementFits d → Matches c (parts_claims d)
     → next (c ++ more) ≢ Some (t.Word w.If) → next (c ++ more) ≢ Some (t.Word w.For) → next (c ++ more) ≢ Some (t.Word w.Def) → IsLined x c
 lined_by x c more (Statement-F.Line l) is fits spelt no_if no_for no_def = last_back IsLine made_line x c l (fits, spelt) (sym is ∙ tree.rolls-Line l)
 lined_by x c more (Statement-F.If at first others other) is fits spelt no_if no_for no_def = absurd (no_if (header_next c more at (t.Word w.If) _ spelt))

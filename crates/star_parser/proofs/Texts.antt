@@ -8,17 +8,20 @@ use Rattle.star_syntax.specs.declared.statement.Statement.{Statement}
 use Rattle.star_syntax.specs.declared.statement.Module.{Module}
 use Rattle.star_syntax.specs.Spelling.{Tokens, statement_spelling, spelling}
 use Rattle.star_syntax.specs.Levels.{WellLevelled}
+use Rattle.star_syntax.specs.Nesting.{IsEnded}
 use Rattle.star_parser.specs.Reading.{Input, Outcome, Reader, and_then, ◌>>=◌, pure, kinds}
 use Rattle.star_parser.specs.Readers.{expr}
 use Rattle.star_parser.specs.StatementTables.{finish}
 use Rattle.star_parser.specs.StatementReaders.{statement, cell_from, cell, whole}
-use Rattle.star_parser.specs.Lines.{module_marks, unlined}
-use Rattle.star_parser.specs.Trees.{LastIsEnd, IsTree, AreSpelled, Begins, IsLeast}
+use Rattle.star_parser.specs.Lines.{unlined}
+use Rattle.star_parser.proofs.Claims.{module_claims, IsClaimed}
+use Rattle.star_parser.specs.Trees.{IsTree, AreSpelled, Begins, IsLeast}
 use Rattle.star_parser.proofs.Exact.{Exact, Reads, Refuses}
 use Rattle.star_parser.proofs.Steps.{some_token}
 use Rattle.star_parser.proofs.Rules.{kinds_append, length_after}
 use Rattle.star_parser.proofs.NoEnd.{end_is_last}
-use Rattle.star_parser.proofs.Marks.{matched_kinds, tokens_module}
+use Rattle.star_parser.proofs.ClaimLemmas.{matched_kinds, tokens_module}
+use Rattle.star_parser.proofs.ClaimedLines.{tree_claimed, claimed_tree}
 use Rattle.star_parser.proofs.Relining.{module_relined}
 use Rattle.star_parser.proofs.StatementsEnd.{statements_clean}
 use Rattle.star_parser.proofs.Cells.{Nothing, whole_exact}
@@ -27,10 +30,13 @@ use Rattle.star_parser.proofs.Cells.{Nothing, whole_exact}
 
 -- a tree's tokens are its spelling
 pub tree_kinds : (x : Module) (ts : Input) → IsTree x ts → spelling x ≡ kinds ts
-tree_kinds x ts h = sym (matched_kinds ts (module_marks x) h.1 ∙ tokens_module x)
+tree_kinds x ts h = sym h.1
+
+claimed_kinds : (x : Module) (ts : Input) → IsClaimed x ts → spelling x ≡ kinds ts
+claimed_kinds x ts h = sym (matched_kinds ts (module_claims x) h.1 ∙ tokens_module x)
 
 -- what spells a tree, on whatever lines, has a tree on these lines
-pub tree_on : (ts : Input) → AreSpelled (kinds ts) → (x : Module) × IsTree x ts
+tree_on : (ts : Input) → AreSpelled (kinds ts) → (x : Module) × IsClaimed x ts
 tree_on ts (x, levelled, spelt) = let r = module_relined x ts levelled (sym spelt) in (r.tree, (r.levelled, r.spelt))
 
 -- some tokens with lines, of these kinds
@@ -44,15 +50,18 @@ kinds_lined (k ∷ ks) = ap (λ v. k ∷ v) (kinds_lined ks)
 
 -- ---- one tree at most
 
-once_by : (ts : Input) (o : Outcome Module) → Exact IsTree Nothing ts o → (x y : Module) → IsTree x ts → IsTree y ts → x ≡ y
+once_by : (ts : Input) (o : Outcome Module) → Exact IsClaimed Nothing ts o → (x y : Module) → IsClaimed x ts → IsClaimed y ts → x ≡ y
 unfolding Exact
 once_by ts (Ok (z, left)) r x y one other =
     (r.only x ts [] left one refl (append-nil ts ∙ r.whole) refl).0 ∙ sym (r.only y ts [] left other refl (append-nil ts ∙ r.whole) refl).0
 once_by ts (Err left) r x y one other = absurd (r.dead x ts [] left one refl (append-nil ts ∙ r.whole) refl)
 
+claimed_once : (ts : Input) (x y : Module) → IsClaimed x ts → IsClaimed y ts → x ≡ y
+claimed_once ts x y one other = once_by ts _ (whole_exact (12 * length ts + 12) (length ts + 1) ts (omega arith) (omega arith)) x y one other
+
 -- tokens have one tree at most
 pub tree_once : (ts : Input) (x y : Module) → IsTree x ts → IsTree y ts → x ≡ y
-tree_once ts x y one other = once_by ts _ (whole_exact (12 * length ts + 12) (length ts + 1) ts (omega arith) (omega arith)) x y one other
+tree_once ts x y one other = claimed_once ts x y (tree_claimed x ts one) (tree_claimed y ts other)
 
 -- two well-levelled trees with one spelling differ in lines alone
 pub one_tree : (x y : Module) → WellLevelled x → WellLevelled y → spelling x ≡ spelling y → unlined x ≡ unlined y
@@ -61,7 +70,7 @@ one_tree x y first second same =
     let k : kinds ts ≡ spelling x = kinds_lined (spelling x) in
     let r = module_relined x ts first k in
     let q = module_relined y ts second (k ∙ same) in
-    sym r.same ∙ ap unlined (tree_once ts r.tree q.tree (r.levelled, r.spelt) (q.levelled, q.spelt)) ∙ q.same
+    sym r.same ∙ ap unlined (claimed_once ts r.tree q.tree (r.levelled, r.spelt) (q.levelled, q.spelt)) ∙ q.same
 
 -- ---- lists
 
@@ -90,10 +99,10 @@ front_is ts taken left whole =
 
 -- ---- where reading stops
 
-none_at_all : (ts left : Input) → Refuses IsTree Nothing ts left → AreSpelled (kinds ts) → ⊥
+none_at_all : (ts left : Input) → Refuses IsClaimed Nothing ts left → AreSpelled (kinds ts) → ⊥
 none_at_all ts left r spelled = let (x, is) = tree_on ts spelled in r.dead x ts [] left is refl (append-nil ts ∙ r.whole) refl
 
-dead_at : (ts left : Input) → Refuses IsTree Nothing ts left → length ts - length left < length (kinds ts) → Begins (take (length ts - length left + 1) (kinds ts)) → ⊥
+dead_at : (ts left : Input) → Refuses IsClaimed Nothing ts left → length ts - length left < length (kinds ts) → Begins (take (length ts - length left + 1) (kinds ts)) → ⊥
 dead_at ts [] r within begun = absurd (let a = kinds_length ts in omega arith)
 dead_at ts (s ∷ left) r within (x, more, levelled, spelt) =
     let w : Input = s ∷ lined more in
@@ -106,12 +115,12 @@ dead_at ts (s ∷ left) r within (x, more, levelled, spelt) =
     r.dead y (r.taken ++ w) [] w is refl (append-nil (r.taken ++ w)) refl
 
 -- End stands at the end alone, so what reads all tokens up to it ends there
-some_left : (ts left : Input) → LastIsEnd ts → Refuses IsTree Nothing ts left → left ≢ []
+some_left : (ts left : Input) → IsEnded ts → Refuses IsClaimed Nothing ts left → left ≢ []
 unfolding spelling
 some_left ts left (front, line, ends) r none =
     let (x, c, more, is, e) = r.viable in
     let all : r.taken ≡ ts = sym (r.whole ∙ ap (λ v. r.taken ++ v) none ∙ append-nil r.taken) in
-    let k : spelling x ≡ kinds ts ++ kinds more = tree_kinds x c is ∙ ap kinds e ∙ kinds_append r.taken more ∙ ap (λ v. kinds v ++ kinds more) all in
+    let k : spelling x ≡ kinds ts ++ kinds more = claimed_kinds x c is ∙ ap kinds e ∙ kinds_append r.taken more ∙ ap (λ v. kinds v ++ kinds more) all in
     let last_kind : kinds ts ≡ kinds front ++ t.End ∷ [] = ap kinds ends ∙ kinds_append front (record { token = t.End; line = line } ∷ []) in
     let last : kinds more ≡ [] = end_is_last t.End (flat_map statement_spelling x.statements) (kinds front) (kinds more) (statements_clean x.statements)
     (k ∙ ap (λ v. v ++ kinds more) last_kind ∙ append_assoc (kinds front) (t.End ∷ []) (kinds more)) in
@@ -121,13 +130,13 @@ is_within : (ts left : Input) → length left ≤ length ts → left ≢ [] → 
 is_within ts [] few some = absurd (some refl)
 is_within ts (s ∷ left) few some = let a = kinds_length ts in omega arith
 
-least : (ts left : Input) → LastIsEnd ts → Refuses IsTree Nothing ts left → IsLeast (length ts - length left) (kinds ts)
+least : (ts left : Input) → IsEnded ts → Refuses IsClaimed Nothing ts left → IsLeast (length ts - length left) (kinds ts)
 least ts left ends r =
     let within : length ts - length left < length (kinds ts) = is_within ts left (length_after ts r.taken left r.whole) (some_left ts left ends r) in
     record {
       within = within;
       viable = let (x, c, more, is, e) = r.viable in
-          (x, kinds more, is.0, tree_kinds x c is ∙ ap kinds e ∙ kinds_append r.taken more ∙ ap (λ v. v ++ kinds more) (sym (front_is ts r.taken left r.whole)));
+          (x, kinds more, is.0, claimed_kinds x c is ∙ ap kinds e ∙ kinds_append r.taken more ∙ ap (λ v. v ++ kinds more) (sym (front_is ts r.taken left r.whole)));
       dead = dead_at ts left r within;
     }
 
@@ -160,16 +169,16 @@ pub when_read : (terms depth : ℕ) (ts : Input) (x : Module) (left : Input) →
     → IsTree x ts × ((y : Module) → IsTree y ts → y ≡ x)
 unfolding Exact
 when_read terms depth ts x left enough deep is =
-    let r : Reads IsTree Nothing ts x left = subst (λ o. Exact IsTree Nothing ts o) is (whole_exact terms depth ts enough deep) in
+    let r : Reads IsClaimed Nothing ts x left = subst (λ o. Exact IsClaimed Nothing ts o) is (whole_exact terms depth ts enough deep) in
     let none : left ≡ [] = whole_empty terms depth ts (x, left) is in
     let all : r.taken ≡ ts = sym (r.whole ∙ ap (λ v. r.taken ++ v) none ∙ append-nil r.taken) in
-    let tree : IsTree x ts = subst (λ v. IsTree x v) all r.spelt in
+    let tree : IsTree x ts = claimed_tree x ts (subst (λ v. IsClaimed x v) all r.spelt) in
     (tree, λ y other. tree_once ts y x other tree)
 
 -- Where a cell is refused, the place is the first at which no tree goes on, and its tokens spell none.
-pub when_refused : (terms depth : ℕ) (ts left : Input) → LastIsEnd ts → 12 * length ts + 11 < terms → length ts < depth → whole terms depth ts ≡ Err left
+pub when_refused : (terms depth : ℕ) (ts left : Input) → IsEnded ts → 12 * length ts + 11 < terms → length ts < depth → whole terms depth ts ≡ Err left
     → (length left ≤ length ts) × IsLeast (length ts - length left) (kinds ts) × (AreSpelled (kinds ts) → ⊥)
 unfolding Exact
 when_refused terms depth ts left ends enough deep is =
-    let r : Refuses IsTree Nothing ts left = subst (λ o. Exact IsTree Nothing ts o) is (whole_exact terms depth ts enough deep) in
+    let r : Refuses IsClaimed Nothing ts left = subst (λ o. Exact IsClaimed Nothing ts o) is (whole_exact terms depth ts enough deep) in
     (length_after ts r.taken left r.whole, least ts left ends r, none_at_all ts left r)

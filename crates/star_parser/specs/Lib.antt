@@ -10,6 +10,5 @@ pub mod StatementReaders
 pub mod Lines
 pub mod Trees
 pub mod Parsing
-pub mod Slices
-pub mod ArgumentReaders
+pub mod Parts
 pub mod NestsBlocks

@@ -1,13 +1,8 @@
--- The tokens of a tree with the lines that its statements claim for their first tokens, and trees without their lines.
+-- The lines of a tree's statements, beside the tokens of its spelling; and trees without their lines.
 use Rattle.std.specs.Prelude.{◌≡◌, ℕ, List, [], ◌∷◌, ◌++◌, map, Option, Some, None}
 use Rattle.std.specs.List.{flat_map}
-use Rattle.star_syntax.specs.declared.token.Token.{Token}
-use Rattle.star_syntax.specs.declared.token.Token.TheVariants as t
-use Rattle.star_syntax.specs.declared.token.Keyword.{Keyword}
-use Rattle.star_syntax.specs.declared.token.Keyword.TheVariants as w
 use Rattle.star_syntax.specs.declared.token.Mark.TheVariants as m
 use Rattle.star_syntax.specs.declared.token.Spanned.{Spanned}
-use Rattle.star_syntax.specs.declared.expression.Expr.{Expr}
 use Rattle.star_syntax.specs.declared.statement.Small.{Small}
 use Rattle.star_syntax.specs.declared.statement.Line.{Line}
 use Rattle.star_syntax.specs.declared.statement.Block.{Block}
@@ -19,93 +14,78 @@ use Rattle.star_syntax.specs.declared.statement.Statement.TheOpen.{Statement-F}
 use Rattle.star_syntax.specs.declared.statement.Module.{Module}
 use Rattle.star_syntax.specs.Spelling.{Tokens, expr_spelling, tests_spelling, small_spelling, parameters_spelling, if_written}
 
--- ---- tokens with lines
+-- ---- the lines of first tokens
 
--- a token, and the line that it must stand on, if one is claimed
-abbrev pub Claim : Type 0
-Claim = Token × Option ℕ
+-- for each token of a spelling, the line of the statement whose first token it is, if it is one's
+abbrev pub Lines : Type 0
+Lines = List (Option ℕ)
 
-abbrev pub Marks : Type 0
-Marks = List Claim
+-- tokens that are no statement's first
+abbrev pub inner : Tokens → Lines
+inner = map (λ _. None)
 
--- a token on any line
-abbrev pub free : Token → Claim
-free k = (k, None)
+-- the first of them is the first token of a statement with this line
+abbrev pub begun : ℕ → Lines → Lines
+begun line [] = []
+begun line (_ ∷ more) = Some line ∷ more
 
-abbrev pub plain : Tokens → Marks
-plain = map free
-
--- the first of them on this line
-abbrev pub first_marked : ℕ → Marks → Marks
-first_marked line [] = []
-first_marked line (k ∷ ks) = (k.0, Some line) ∷ ks
-
-abbrev pub small_marks : Small → Marks
-small_marks small = first_marked small.line (plain (small_spelling small))
+abbrev pub lines_of_small : Small → Lines
+lines_of_small small = begun small.line (inner (small_spelling small))
 
 -- small statements with semicolons between
-abbrev pub smalls_marks : List Small → Marks
-smalls_marks [] = []
-smalls_marks (x ∷ more) = small_marks x ++ flat_map (λ y. free (t.Mark m.Semicolon) ∷ small_marks y) more
+abbrev pub lines_of_smalls : List Small → Lines
+lines_of_smalls [] = []
+lines_of_smalls (x ∷ more) = lines_of_small x ++ flat_map (λ y. None ∷ lines_of_small y) more
 
-unfoldable pub line_marks : Line → Marks
-line_marks line = smalls_marks line.smalls ++ plain (if_written line.semicolon m.Semicolon ++ t.Newline ∷ [])
+-- at the end perhaps a semicolon, and Newline
+unfoldable pub lines_of_line : Line → Lines
+lines_of_line line = lines_of_smalls line.smalls ++ (inner (if_written line.semicolon m.Semicolon) ++ None ∷ [])
 
--- ---- statements, over the tokens of the statements in their blocks
+-- Newline, Indent, the statements, Dedent
+abbrev pub lines_of_block : Block Lines → Lines
+lines_of_block (Inline line) = lines_of_line line
+lines_of_block (Indented statements) = None ∷ None ∷ (flat_map (λ s. s) statements ++ None ∷ [])
 
-abbrev pub block_marks : Block Marks → Marks
-block_marks (Inline line) = line_marks line
-block_marks (Indented statements) = plain (t.Newline ∷ t.Indent ∷ []) ++ (flat_map (λ s. s) statements ++ plain (t.Dedent ∷ []))
+-- `if` or `elif`, the condition, the colon, the block
+abbrev pub lines_of_branch : Branch Lines → Lines
+lines_of_branch branch = None ∷ (inner (expr_spelling branch.condition) ++ None ∷ lines_of_block branch.body)
 
--- `if ..:` or `elif ..:`
-abbrev pub branch_header : Keyword → Expr → Tokens
-branch_header word condition = t.Word word ∷ (expr_spelling condition ++ t.Mark m.Colon ∷ [])
+-- `else`, the colon, the block
+abbrev pub lines_of_else : Option (Block Lines) → Lines
+lines_of_else None = []
+lines_of_else (Some body) = None ∷ None ∷ lines_of_block body
 
-abbrev pub branch_marks : Keyword → Branch Marks → Marks
-branch_marks word branch = plain (branch_header word branch.condition) ++ block_marks branch.body
+-- `for`, the targets, `in`, the tests, the colon, the block
+abbrev pub lines_of_for : Tokens → Tokens → Lines → Lines
+lines_of_for targets over body = None ∷ (inner targets ++ None ∷ (inner over ++ None ∷ body))
 
-abbrev pub else_header : Tokens
-else_header = t.Word w.Else ∷ t.Mark m.Colon ∷ []
+-- `def`, the name, `(`, the parameters, perhaps a comma, `)`, the colon, the block
+abbrev pub lines_of_def : Tokens → Tokens → Lines → Lines
+lines_of_def parameters comma body = None ∷ None ∷ None ∷ (inner parameters ++ (inner comma ++ None ∷ None ∷ body))
 
-abbrev pub else_marks : Option (Block Marks) → Marks
-else_marks None = []
-else_marks (Some body) = plain else_header ++ block_marks body
+abbrev pub lines_of_layer : Statement-F Lines → Lines
+lines_of_layer (Statement-F.Line line) = lines_of_line line
+lines_of_layer (Statement-F.If at first more other) = begun at (lines_of_branch first ++ (flat_map lines_of_branch more ++ lines_of_else other))
+lines_of_layer (Statement-F.For at targets over body) = begun at (lines_of_for (tests_spelling targets) (tests_spelling over) (lines_of_block body))
+lines_of_layer (Statement-F.Def at def) =
+    begun at (lines_of_def (parameters_spelling def.required def.defaults) (if_written def.comma m.Comma) (lines_of_block def.body))
 
--- `for .. in ..:`
-abbrev pub for_header : List Expr → List Expr → Tokens
-for_header targets over = t.Word w.For ∷ (tests_spelling targets ++ t.Word w.In ∷ (tests_spelling over ++ t.Mark m.Colon ∷ []))
+unfoldable pub lines_of_statement : Statement → Lines
+lines_of_statement = fold-Statement Lines lines_of_layer
 
--- `def name(..):`
-abbrev pub def_header : {X : Type 0} → Definition X → Tokens
-def_header def =
-    t.Word w.Def ∷ t.Name def.name ∷ t.Mark m.OpenRound
-    ∷ (parameters_spelling def.required def.defaults ++ (if_written def.comma m.Comma ++ t.Mark m.CloseRound ∷ t.Mark m.Colon ∷ []))
-
-abbrev pub statement_layer_marks : Statement-F Marks → Marks
-statement_layer_marks (Statement-F.Line line) = line_marks line
-statement_layer_marks (Statement-F.If at first more other) =
-    first_marked at (branch_marks w.If first ++ (flat_map (branch_marks w.Elif) more ++ else_marks other))
-statement_layer_marks (Statement-F.For at targets over body) =
-    first_marked at (plain (for_header targets over) ++ block_marks body)
-statement_layer_marks (Statement-F.Def at def) = first_marked at (plain (def_header def) ++ block_marks def.body)
-
-unfoldable pub statement_marks : Statement → Marks
-statement_marks = fold-Statement Marks statement_layer_marks
-
-unfoldable pub module_marks : Module → Marks
-module_marks cell = flat_map statement_marks cell.statements ++ plain (t.End ∷ [])
-
--- ---- tokens as they were read
+-- the statements, and End
+unfoldable pub lines_of : Module → Lines
+lines_of cell = flat_map lines_of_statement cell.statements ++ None ∷ []
 
 abbrev pub OnLine : Option ℕ → ℕ → Type 0
 OnLine None line = Unit {0}
-OnLine (Some claimed) line = claimed ≡ line
+OnLine (Some first) line = first ≡ line
 
--- the tokens are these, on the lines that are claimed
-abbrev pub Matches : List Spanned → Marks → Type 0
-Matches [] [] = Unit {0}
-Matches (s ∷ c) (k ∷ ks) = (s.token ≡ k.0) × OnLine k.1 s.line × Matches c ks
-Matches _ _ = ⊥
+-- as many tokens as lines, each token on its line, if there is one for it
+abbrev pub StandOn : Lines → List Spanned → Type 0
+StandOn [] [] = Unit {0}
+StandOn (x ∷ more) (s ∷ tokens) = OnLine x s.line × StandOn more tokens
+StandOn _ _ = ⊥
 
 -- ---- trees without their lines
 

@@ -2,19 +2,14 @@
 use Rattle.std.specs.Prelude.{◌≡◌, ◌<◌, ◌+◌, ℕ, ◌++◌, length, take}
 use Rattle.star_syntax.specs.declared.statement.Module.{Module}
 use Rattle.star_syntax.specs.Levels.{WellLevelled}
-use Rattle.star_syntax.specs.Nesting.{IsEnded}
 use Rattle.star_syntax.specs.Spelling.{Tokens, spelling}
-use Rattle.star_parser.specs.Lines.{Matches, module_marks}
-use Rattle.star_parser.specs.Reading.{Input}
-
--- the last token is End
-abbrev pub LastIsEnd : Input → Type 0
-LastIsEnd = IsEnded
+use Rattle.star_parser.specs.Lines.{lines_of, StandOn}
+use Rattle.star_parser.specs.Reading.{Input, kinds}
 
 -- The tree's operands have the levels of the grammar, the tokens are its spelling,
--- and each statement's line is the line of its first token.
+-- and the line of each of its statements is the line of the statement's first token.
 abbrev pub IsTree : Module → Input → Type 0
-IsTree cell tokens = WellLevelled cell × Matches tokens (module_marks cell)
+IsTree cell tokens = WellLevelled cell × (kinds tokens ≡ spelling cell) × StandOn (lines_of cell) tokens
 
 -- some well-levelled tree, whatever its lines, is spelled with these tokens
 abbrev pub AreSpelled : Tokens → Type 0

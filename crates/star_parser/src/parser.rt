@@ -2,12 +2,13 @@
 ghost use Rattle.std.specs.Prelude.{◌≡◌, ◌+◌, ◌*◌, IfOk, length};
 ghost use Rattle.star_syntax.specs.declared.statement.Module.{Module};
 ghost use Rattle.star_syntax.specs.Levels.{WellLevelled};
+ghost use Rattle.star_syntax.specs.Nesting.{IsEnded, IsShallow};
 ghost use Rattle.star_syntax.specs.Spelling.{spelling};
 ghost use Rattle.star_parser.specs.Lines.{unlined};
 ghost use Rattle.star_parser.specs.Parsing.{IfUnexpected, IsUnrefused};
 ghost use Rattle.star_parser.specs.Reading.{kinds};
 ghost use Rattle.star_parser.specs.StatementReaders as spec;
-ghost use Rattle.star_parser.specs.Trees.{LastIsEnd, IsTree, AreSpelled, IsLeast};
+ghost use Rattle.star_parser.specs.Trees.{IsTree, AreSpelled, IsLeast};
 ghost use Rattle.star_parser.specs.Verdict.{Reads};
 
 use crate::compound::{self, Blocks};
@@ -53,11 +54,12 @@ fn depth_of_blocks(tokens: &[Spanned]) -> usize
 }
 
 /// The tree of the tokens of a cell by the grammar of docs/LANGUAGE.md, with the line of each
-/// statement's first token; or the least place with whose token no cell begins. The last token must be
-/// End. Takes time in proportion to the tokens.
+/// statement's first token; or the least place with whose token no cell begins. At most 32 brackets and
+/// indentations may be open at any place, and the last token must be End. Takes time in proportion to the tokens.
 pub fn parse(alloc: Global, tokens: &[Spanned]) -> Result<Module, ParseFault>
-    requires { LastIsEnd tokens.now }
-    // The tree is well-levelled, the tokens are its spelling, and its lines are theirs.
+    requires nested { IsShallow tokens.now }
+    requires ended { IsEnded tokens.now }
+    // The tree is well-levelled, the tokens are its spelling, and its statements' lines are theirs.
     ensures ok { IfOk result (λ cell. IsTree cell tokens.now) }
     // There is no other.
     ensures only { IfOk result (λ cell. (other : Module) → IsTree other tokens.now → other ≡ cell) }

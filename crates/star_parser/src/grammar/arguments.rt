@@ -4,7 +4,7 @@ ghost use Rattle.std.specs.Prelude.{◌≡◌, [], length, IfOk};
 ghost use Rattle.star_parser.specs.Readers as spec;
 ghost use Rattle.star_parser.specs.Verdict.{Reads};
 ghost use Rattle.star_parser.specs.Nests.{Nests};
-ghost use Rattle.star_parser.specs.ArgumentReaders as single;
+ghost use Rattle.star_parser.specs.Parts as parts;
 
 use crate::cursor::Cursor;
 use crate::fault::Fault;
@@ -56,10 +56,10 @@ impl<F: Fn(Global, &mut Cursor<'_>, usize, Level) -> Result<Expr, Fault>> Gramma
     }
 
     /// A positional argument, or the name of a named one with the `=` after it.
-    #[tactic(auto, using(crate::proofs::Targets::names), unfolding(crate::specs::ArgumentReaders::argument))]
+    #[tactic(auto, using(crate::proofs::Targets::names), unfolding(crate::specs::Parts::argument))]
     fn argument(&self, tokens: &mut Cursor<'_>) -> Result<Argument, Fault>
         requires { Nests self.now.depth (F.pre self.now.expr) (F.post self.now.expr) }
-        ensures { Reads (single.argument (spec.expr self.now.depth) tokens.old.rest.now) result tokens.new.rest.now }
+        ensures { Reads (parts.argument (spec.expr self.now.depth) tokens.old.rest.now) result tokens.new.rest.now }
     {
         match name_or_self(self.expr(tokens, Level::Test)?) {
             Ok(name) => {

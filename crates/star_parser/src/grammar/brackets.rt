@@ -90,13 +90,12 @@ impl<F: Fn(Global, &mut Cursor<'_>, usize, Level) -> Result<Expr, Fault>> Gramma
     }
 
     /// After `[` and an expression, where `for` follows.
-    #[tactic(auto, unfolding(crate::specs::Readers::list_over))]
+    #[tactic(auto, using(crate::proofs::OverSteps::list_by_clauses))]
     fn list_over(&self, tokens: &mut Cursor<'_>, item: Expr) -> Result<Expr, Fault>
         requires { Nests self.now.depth (F.pre self.now.expr) (F.post self.now.expr) }
         ensures { Reads (spec.list_over (spec.expr self.now.depth) item tokens.old.rest.now) result tokens.new.rest.now }
     {
-        let clauses = self.clauses(tokens)?;
-        tokens.expect(Mark::CloseSquare)?;
+        let clauses = self.closed_clauses(tokens, Mark::CloseSquare)?;
         Ok(Expr::ListOver(Boxed::new(self.alloc, item)?, clauses))
     }
 

@@ -4,6 +4,7 @@ ghost use Rattle.std.specs.Prelude.{◌≡◌, [], length};
 ghost use Rattle.star_parser.specs.Readers as spec;
 ghost use Rattle.star_parser.specs.Verdict.{Reads};
 ghost use Rattle.star_parser.specs.Nests.{Nests};
+ghost use Rattle.star_parser.specs.Parts as parts;
 
 use crate::cursor::Cursor;
 use crate::fault::Fault;
@@ -64,6 +65,20 @@ impl<F: Fn(Global, &mut Cursor<'_>, usize, Level) -> Result<Expr, Fault>> Gramma
             };
             found.push(clause)?;
         }
+        Ok(found)
+    }
+    /// The clauses up to the closing bracket, which is passed.
+    #[tactic(auto, unfolding(crate::specs::Parts::closed_clauses))]
+    pub fn closed_clauses(
+        &self,
+        tokens: &mut Cursor<'_>,
+        close: Mark,
+    ) -> Result<Items<Clause<Expr>>, Fault>
+        requires { Nests self.now.depth (F.pre self.now.expr) (F.post self.now.expr) }
+        ensures { Reads (parts.closed_clauses (spec.expr self.now.depth) close tokens.old.rest.now) result tokens.new.rest.now }
+    {
+        let found = self.clauses(tokens)?;
+        tokens.expect(close)?;
         Ok(found)
     }
 }

@@ -1,6 +1,7 @@
 //! What stands in curly brackets.
 
-ghost use Rattle.std.specs.Prelude.{◌≡◌, [], length};
+ghost use Rattle.std.specs.Prelude.{◌≡◌, [], length, IfOk};
+ghost use Rattle.star_syntax.specs.declared.expression.Expr.TheVariants as variant;
 ghost use Rattle.star_parser.specs.Readers as spec;
 ghost use Rattle.star_parser.specs.Verdict.{Reads};
 ghost use Rattle.star_parser.specs.Nests.{Nests};
@@ -10,8 +11,8 @@ use crate::fault::Fault;
 use crate::grammar::Grammar;
 use crate::level::Level;
 use sqlite_items::{Boxed, Items};
-use star_syntax::{Expr, Keyword, Mark, Pair};
-use std::alloc::Global;
+use star_syntax::{Clause, Expr, Keyword, Mark, Pair};
+use std::alloc::{AllocError, Global};
 
 impl<F: Fn(Global, &mut Cursor<'_>, usize, Level) -> Result<Expr, Fault>> Grammar<F> {
     /// `key: value`
@@ -69,19 +70,13 @@ impl<F: Fn(Global, &mut Cursor<'_>, usize, Level) -> Result<Expr, Fault>> Gramma
     }
 
     /// After `{` and a pair, where `for` follows.
-    #[tactic(auto, unfolding(crate::specs::Readers::dict_over))]
+    #[tactic(auto, using(crate::proofs::OverSteps::dict_by_clauses))]
     fn dict_over(&self, tokens: &mut Cursor<'_>, first: Pair<Expr>) -> Result<Expr, Fault>
         requires { Nests self.now.depth (F.pre self.now.expr) (F.post self.now.expr) }
         ensures { Reads (spec.dict_over (spec.expr self.now.depth) first tokens.old.rest.now) result tokens.new.rest.now }
     {
-        let clauses = self.clauses(tokens)?;
-        tokens.expect(Mark::CloseCurly)?;
-        let Pair { key, value } = first;
-        Ok(Expr::DictOver(
-            Boxed::new(self.alloc, key)?,
-            Boxed::new(self.alloc, value)?,
-            clauses,
-        ))
+        let clauses = self.closed_clauses(tokens, Mark::CloseCurly)?;
+        Ok(dict_over(self.alloc, first, clauses)?)
     }
 
     /// After `{`.
@@ -100,4 +95,26 @@ impl<F: Fn(Global, &mut Cursor<'_>, usize, Level) -> Result<Expr, Fault>> Gramma
             self.paired_after(tokens, first)
         }
     }
+}
+
+/// A dict over clauses.
+fn dict_over(
+    alloc: Global,
+    pair: Pair<Expr>,
+    clauses: Items<Clause<Expr>>,
+) -> Result<Expr, AllocError>
+    ensures { IfOk result (λ tree. tree ≡ variant.DictOver pair.key pair.value clauses) }
+{
+    let (key, value) = boxed(alloc, pair)?;
+    Ok(Expr::DictOver(key, value, clauses))
+}
+
+/// The key and the value of a pair, each in a box.
+fn boxed(alloc: Global, pair: Pair<Expr>) -> Result<(Boxed<Expr>, Boxed<Expr>), AllocError>
+    ensures { IfOk result (λ boxes. (boxes.0 ≡ pair.key) × (boxes.1 ≡ pair.value)) }
+{
+    let Pair { key, value } = pair;
+    let key = Boxed::new(alloc, key)?;
+    let value = Boxed::new(alloc, value)?;
+    Ok((key, value))
 }

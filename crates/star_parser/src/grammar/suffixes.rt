@@ -4,7 +4,7 @@ ghost use Rattle.std.specs.Prelude.{◌≡◌, [], length, IfOk};
 ghost use Rattle.star_parser.specs.Readers as spec;
 ghost use Rattle.star_parser.specs.Verdict.{Reads};
 ghost use Rattle.star_parser.specs.Nests.{Nests};
-ghost use Rattle.star_parser.specs.Slices as slices;
+ghost use Rattle.star_parser.specs.Parts as parts;
 
 use crate::cursor::Cursor;
 use crate::fault::Fault;
@@ -28,10 +28,10 @@ impl<F: Fn(Global, &mut Cursor<'_>, usize, Level) -> Result<Expr, Fault>> Gramma
     }
 
     /// The second colon of a slice, where it stands, what stands after it, and `]`.
-    #[tactic(auto, unfolding(crate::specs::Slices::slice_step))]
+    #[tactic(auto, unfolding(crate::specs::Parts::slice_step))]
     fn slice_step(&self, tokens: &mut Cursor<'_>) -> Result<Option<Option<Expr>>, Fault>
         requires { Nests self.now.depth (F.pre self.now.expr) (F.post self.now.expr) }
-        ensures { Reads (slices.slice_step (spec.expr self.now.depth) tokens.old.rest.now) result tokens.new.rest.now }
+        ensures { Reads (parts.slice_step (spec.expr self.now.depth) tokens.old.rest.now) result tokens.new.rest.now }
     {
         if !tokens.eat(Mark::Colon) {
             tokens.expect(Mark::CloseSquare)?;
@@ -45,8 +45,22 @@ impl<F: Fn(Global, &mut Cursor<'_>, usize, Level) -> Result<Expr, Fault>> Gramma
         Ok(Some(Some(step)))
     }
 
+    /// The second bound of a slice, its step, and `]`.
+    #[tactic(auto, unfolding(crate::specs::Parts::slice_end))]
+    fn slice_end(
+        &self,
+        tokens: &mut Cursor<'_>,
+    ) -> Result<(Option<Expr>, Option<Option<Expr>>), Fault>
+        requires { Nests self.now.depth (F.pre self.now.expr) (F.post self.now.expr) }
+        ensures { Reads (parts.slice_end (spec.expr self.now.depth) tokens.old.rest.now) result tokens.new.rest.now }
+    {
+        let stop = self.bound(tokens)?;
+        let step = self.slice_step(tokens)?;
+        Ok((stop, step))
+    }
+
     /// After the first colon of a slice.
-    #[tactic(auto, using(crate::proofs::SliceSteps::slice_by_step))]
+    #[tactic(auto, using(crate::proofs::SliceSteps::slice_by_end))]
     fn slice_after(
         &self,
         tokens: &mut Cursor<'_>,
@@ -55,8 +69,7 @@ impl<F: Fn(Global, &mut Cursor<'_>, usize, Level) -> Result<Expr, Fault>> Gramma
         requires { Nests self.now.depth (F.pre self.now.expr) (F.post self.now.expr) }
         ensures { Reads (spec.slice_after (spec.expr self.now.depth) start tokens.old.rest.now) result tokens.new.rest.now }
     {
-        let stop = self.bound(tokens)?;
-        let step = self.slice_step(tokens)?;
+        let (stop, step) = self.slice_end(tokens)?;
         Ok(Suffix::Slice(start, stop, step))
     }
 

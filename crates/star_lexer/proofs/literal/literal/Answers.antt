@@ -8,7 +8,7 @@ use Rattle.star_lexer.proofs.literal.literal.Goals as goal
 
 pub loop-at-init : goal.loop-at-init
 loop-at-init c = record {
-  told = literal_begins _ _ _ _ c.style_at-style.ensures c.opening_len-at.ensures.value c.new-points.ensures.items;
+  same = literal_begins _ _ _ _ c.style_at-style.ensures c.opening_len-at.ensures.value c.new-points.ensures.items;
   within = let fits = opening_fits c.args.text.now c.requires in omega (arith, fits, c.opening_len-at.ensures.value, ap (λ q. length (opening q)) c.style_at-style.ensures);
   some = omega (arith, c.opening_len-at.ensures.some);
 }
@@ -22,9 +22,9 @@ loop-at-preserved c =
     let open_here : closes q (drop l.at text) ≡ false = grind (arith, common_steps, c.closes.ensures, c.if-closes.false) in
     let fits : c.in-Ok.len ≤ length (drop l.at text) = grind (arith, common_steps, n.1) in
     let read : part_at q (drop l.at text) ≡ Ok (meant c.in-Ok.meaning, c.in-Ok.len) = grind (arith, common_steps, c.in-Ok.ensures.value) in
-    let turn = literal_turn q text l.points.items (meant c.in-Ok.meaning) l.at c.in-Ok.len l.invariant.told c.loop-at-test.true open_here n.0 fits read in
+    let turn = literal_turn q text l.points.items (meant c.in-Ok.meaning) l.at c.in-Ok.len l.invariant.same c.loop-at-test.true open_here n.0 fits read in
     record {
-      told = turn ∙ ap (λ xs. blamed (before xs (far (l.at + c.in-Ok.len) (content q 0 (drop (l.at + c.in-Ok.len) text))))) (sym c.in_ok-add-in-Ok.ensures);
+      same = turn ∙ ap (λ xs. blamed (before xs (far (l.at + c.in-Ok.len) (content q 0 (drop (l.at + c.in-Ok.len) text))))) (sym c.in_ok-add-in-Ok.ensures);
       within = omega (arith, fits, length-drop l.at text);
       some = omega (arith, l.invariant.some);
     }
