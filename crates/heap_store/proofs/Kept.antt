@@ -12,7 +12,7 @@ use Rattle.std.specs.declared.cmp.Ordering.TheVariants.{Less, Equal, Greater}
 use Rattle.chex_base.specs.TextOrder.{text_cmp}
 use Rattle.star_value.specs.declared.key.Key.{Key}
 use Rattle.star_value.specs.declared.value.Value.{Value}
-use Rattle.star_meaning.specs.State.{Object, AList, ADict, AFunction, items_of, pairs_of, parts_of, dict_put, dict_without, function, object, with_list, with_dict}
+use Rattle.star_meaning.specs.State.{Object, AList, ADict, AFunction, items_held, pairs_held, function_held, dict_put, dict_without, function, object, with_list, with_dict}
 use Rattle.star_meaning.specs.Validity.{MachineState, IsMachine, is_list, is_dict, is_function, fits, all_in_object, are_distinct, has_distinct_keys}
 use Rattle.heap_store.specs.Objects.{defaults, defaults_in, emptied, with_defaults, with_nothing}
 use Rattle.heap_store.proofs.Tested.{and_left, and_right, and_both, all_push, all_set, all_insert, all_remove}
@@ -27,28 +27,28 @@ Globals = List (List ℕ × Value)
 
 -- ---- what one object of a machine keeps
 
-pub items_fit : (test : Value → Bool) (os : Objects) (i : ℕ) → IsTrue (list_all (all_in_object test) os) → IsTrue (list_all test (items_of (slice_get os i)))
+pub items_fit : (test : Value → Bool) (os : Objects) (i : ℕ) → IsTrue (list_all (all_in_object test) os) → IsTrue (list_all test (items_held (slice_get os i)))
 items_fit test [] i h = refl
 items_fit test (AList items ∷ os) zero h = and_left (list_all test items) (list_all (all_in_object test) os) h
 items_fit test (ADict pairs ∷ os) zero h = refl
 items_fit test (AFunction cell number defaults ∷ os) zero h = refl
 items_fit test (o ∷ os) (suc i) h = items_fit test os i (and_right (all_in_object test o) (list_all (all_in_object test) os) h)
 
-pub pairs_fit : (test : Value → Bool) (os : Objects) (i : ℕ) → IsTrue (list_all (all_in_object test) os) → IsTrue (list_all (λ pair. test pair.1) (pairs_of (slice_get os i)))
+pub pairs_fit : (test : Value → Bool) (os : Objects) (i : ℕ) → IsTrue (list_all (all_in_object test) os) → IsTrue (list_all (λ pair. test pair.1) (pairs_held (slice_get os i)))
 pairs_fit test [] i h = refl
 pairs_fit test (AList items ∷ os) zero h = refl
 pairs_fit test (ADict pairs ∷ os) zero h = and_left (list_all (λ pair. test pair.1) pairs) (list_all (all_in_object test) os) h
 pairs_fit test (AFunction cell number defaults ∷ os) zero h = refl
 pairs_fit test (o ∷ os) (suc i) h = pairs_fit test os i (and_right (all_in_object test o) (list_all (all_in_object test) os) h)
 
-pub defaults_fit : (test : Value → Bool) (os : Objects) (i : ℕ) → IsTrue (list_all (all_in_object test) os) → IsTrue (list_all test (defaults_in (parts_of (slice_get os i))))
+pub defaults_fit : (test : Value → Bool) (os : Objects) (i : ℕ) → IsTrue (list_all (all_in_object test) os) → IsTrue (list_all test (defaults_in (function_held (slice_get os i))))
 defaults_fit test [] i h = refl
 defaults_fit test (AList items ∷ os) zero h = refl
 defaults_fit test (ADict pairs ∷ os) zero h = refl
 defaults_fit test (AFunction cell number defaults ∷ os) zero h = and_left (list_all test defaults) (list_all (all_in_object test) os) h
 defaults_fit test (o ∷ os) (suc i) h = defaults_fit test os i (and_right (all_in_object test o) (list_all (all_in_object test) os) h)
 
-pub keys_distinct : (os : Objects) (i : ℕ) → IsTrue (list_all has_distinct_keys os) → IsTrue (are_distinct (pairs_of (slice_get os i)))
+pub keys_distinct : (os : Objects) (i : ℕ) → IsTrue (list_all has_distinct_keys os) → IsTrue (are_distinct (pairs_held (slice_get os i)))
 keys_distinct [] i h = refl
 keys_distinct (AList items ∷ os) zero h = refl
 keys_distinct (ADict pairs ∷ os) zero h = and_left (are_distinct pairs) (list_all has_distinct_keys os) h
@@ -192,34 +192,34 @@ pub changed_same : (m : MachineState) (id : ℕ) (a b : Object ℕ) → a ≡ b 
 changed_same m id a b same = ap (λ o. with_objects m (slice_set m.state.objects id o)) same
 
 pub kept_insert : (m : MachineState) (id : ℕ) (o : Object ℕ) (place : ℕ) (v : Value) → IsMachine m → IsTrue (is_list (slice_get m.state.objects id)) → IsTrue (fits m.state.objects v)
-    → o ≡ AList (insert (items_of (slice_get m.state.objects id)) place v) → IsMachine (with_objects m (slice_set m.state.objects id o))
+    → o ≡ AList (insert (items_held (slice_get m.state.objects id)) place v) → IsMachine (with_objects m (slice_set m.state.objects id o))
 kept_insert m id o place v kept is fit made =
-    let items = items_of (slice_get m.state.objects id) in
+    let items = items_held (slice_get m.state.objects id) in
     rw made (kept_list m id (insert items place v) kept is (all_insert (fits m.state.objects) items place v (items_fit (fits m.state.objects) m.state.objects id (objects_fit m kept)) fit))
 
 pub kept_set : (m : MachineState) (id : ℕ) (o : Object ℕ) (place : ℕ) (v : Value) → IsMachine m → IsTrue (is_list (slice_get m.state.objects id)) → IsTrue (fits m.state.objects v)
-    → o ≡ AList (slice_set (items_of (slice_get m.state.objects id)) place v) → IsMachine (with_objects m (slice_set m.state.objects id o))
+    → o ≡ AList (slice_set (items_held (slice_get m.state.objects id)) place v) → IsMachine (with_objects m (slice_set m.state.objects id o))
 kept_set m id o place v kept is fit made =
-    let items = items_of (slice_get m.state.objects id) in
+    let items = items_held (slice_get m.state.objects id) in
     rw made (kept_list m id (slice_set items place v) kept is (all_set (fits m.state.objects) items place v (items_fit (fits m.state.objects) m.state.objects id (objects_fit m kept)) fit))
 
 pub kept_remove : (m : MachineState) (id : ℕ) (o : Object ℕ) (place : ℕ) → IsMachine m → IsTrue (is_list (slice_get m.state.objects id))
-    → o ≡ AList (remove (items_of (slice_get m.state.objects id)) place) → IsMachine (with_objects m (slice_set m.state.objects id o))
+    → o ≡ AList (remove (items_held (slice_get m.state.objects id)) place) → IsMachine (with_objects m (slice_set m.state.objects id o))
 kept_remove m id o place kept is made =
-    let items = items_of (slice_get m.state.objects id) in
+    let items = items_held (slice_get m.state.objects id) in
     rw made (kept_list m id (remove items place) kept is (all_remove (fits m.state.objects) items place (items_fit (fits m.state.objects) m.state.objects id (objects_fit m kept))))
 
 pub kept_put : (m : MachineState) (id : ℕ) (o : Object ℕ) (key : Key) (v : Value) → IsMachine m → IsTrue (is_dict (slice_get m.state.objects id)) → IsTrue (fits m.state.objects v)
-    → o ≡ ADict (dict_put (pairs_of (slice_get m.state.objects id)) key v) → IsMachine (with_objects m (slice_set m.state.objects id o))
+    → o ≡ ADict (dict_put (pairs_held (slice_get m.state.objects id)) key v) → IsMachine (with_objects m (slice_set m.state.objects id o))
 kept_put m id o key v kept is fit made =
-    let pairs = pairs_of (slice_get m.state.objects id) in
+    let pairs = pairs_held (slice_get m.state.objects id) in
     rw made (kept_dict m id (dict_put pairs key v) kept is (distinct_put key v pairs (keys_distinct m.state.objects id kept.keys))
     (all_put (fits m.state.objects) key v fit pairs (pairs_fit (fits m.state.objects) m.state.objects id (objects_fit m kept))))
 
 pub kept_without : (m : MachineState) (id : ℕ) (o : Object ℕ) (key : Key) → IsMachine m → IsTrue (is_dict (slice_get m.state.objects id))
-    → o ≡ ADict (dict_without (pairs_of (slice_get m.state.objects id)) key) → IsMachine (with_objects m (slice_set m.state.objects id o))
+    → o ≡ ADict (dict_without (pairs_held (slice_get m.state.objects id)) key) → IsMachine (with_objects m (slice_set m.state.objects id o))
 kept_without m id o key kept is made =
-    let pairs = pairs_of (slice_get m.state.objects id) in
+    let pairs = pairs_held (slice_get m.state.objects id) in
     rw made (kept_dict m id (dict_without pairs key) kept is (distinct_without key pairs (keys_distinct m.state.objects id kept.keys))
     (all_without (fits m.state.objects) key pairs (pairs_fit (fits m.state.objects) m.state.objects id (objects_fit m kept))))
 
@@ -249,7 +249,7 @@ cleared_is m id o None here is made = absurd (cc)
 -- ---- a function with another default
 
 abbrev pub Redefaulted : Object ℕ → ℕ → Value → Option (Object ℕ) → Type 0
-Redefaulted o place v before = IfSome (parts_of before) (λ parts. o ≡ AFunction parts.0 parts.1 (slice_set parts.2 place v))
+Redefaulted o place v before = IfSome (function_held before) (λ parts. o ≡ AFunction parts.0 parts.1 (slice_set parts.2 place v))
 
 pub kept_default : (m : MachineState) (id : ℕ) (o : Object ℕ) (place : ℕ) (v : Value) (before : Option (Object ℕ)) → slice_get m.state.objects id ≡ before → IsTrue (is_function before) → Redefaulted o place v before
     → IsMachine m → IsTrue (fits m.state.objects v) → IsMachine (with_objects m (slice_set m.state.objects id o))

@@ -5,6 +5,6 @@ use Rattle.star_value.specs.declared.value.Value.{Value}
 use Rattle.star_value.specs.KeyOrder.{same_key}
 
 -- the place of the first pair with this key, or the number of pairs where none has it
-abbrev pub place_of : List (Key × Value) → Key → ℕ
-place_of [] key = 0
-place_of (pair ∷ pairs) key = if same_key key pair.0 then 0 else place_of pairs key + 1
+abbrev pub key_place : List (Key × Value) → Key → ℕ
+key_place [] key = 0
+key_place (pair ∷ pairs) key = if same_key key pair.0 then 0 else key_place pairs key + 1

@@ -2,7 +2,7 @@
 ghost use Rattle.std.specs.Prelude.{◌≡◌, ◌<◌, ◌≤◌, [], length, IsTrue, IfSome, OnErr, OnOk, slice_get, slice_set, insert, remove};
 ghost use Rattle.heap_store.specs.Objects.{kind_of, emptied, defaults_in};
 ghost use Rattle.star_meaning.specs.State as state;
-ghost use Rattle.star_meaning.specs.State.{AList, ADict, AFunction, items_of, pairs_of, parts_of};
+ghost use Rattle.star_meaning.specs.State.{AList, ADict, AFunction, items_held, pairs_held, function_held};
 ghost use Rattle.star_meaning.specs.Validity.{is_list, is_dict, is_function};
 
 use crate::Kind;
@@ -38,9 +38,9 @@ impl Model for Object {
 
     ghost coded = { Prim.hlevel (codes, k.the_row.coded, v.the_row.coded) };
 
-    ghost use Rattle.heap_store.specs.Forms.{seen};
+    ghost use Rattle.heap_store.specs.Forms.{object_of};
 
-    ghost view = { λ o. seen o.form };
+    ghost view = { λ o. object_of o.form };
 }
 
 impl Object {
@@ -85,7 +85,7 @@ impl Object {
     /// The items of a list.
     pub fn items(&self) -> &[Value]
         requires { IsTrue (is_list (Some self.now)) }
-        ensures { result.now ≡ items_of (Some self.now) }
+        ensures { result.now ≡ items_held (Some self.now) }
     {
         match &self.form {
             Form::List(items) => items.as_slice(),
@@ -97,7 +97,7 @@ impl Object {
     /// The pairs of a dict, in order of insertion.
     pub fn pairs(&self) -> &[Pair]
         requires { IsTrue (is_dict (Some self.now)) }
-        ensures { result.now ≡ pairs_of (Some self.now) }
+        ensures { result.now ≡ pairs_held (Some self.now) }
     {
         match &self.form {
             Form::Dict(pairs) => pairs.as_slice(),
@@ -109,7 +109,7 @@ impl Object {
     /// The cell of a function, its number there, and the values of its defaults.
     pub fn parts(&self) -> (NodeId, u32, &[Value])
         requires { IsTrue (is_function (Some self.now)) }
-        ensures { parts_of (Some self.now) ≡ Some (result.0, result.1, result.2.now) }
+        ensures { function_held (Some self.now) ≡ Some (result.0, result.1, result.2.now) }
     {
         match &self.form {
             Form::Function(cell, number, defaults) => (*cell, *number, defaults.as_slice()),
@@ -122,8 +122,8 @@ impl Object {
     /// memory is wanting nothing changes, and the value is dropped.
     pub fn insert(&mut self, place: usize, value: Value) -> Result<(), NoMemory>
         requires kind { IsTrue (is_list (Some self.old)) }
-        requires within { place ≤ length (items_of (Some self.old)) }
-        ensures ok { OnOk result (self.new ≡ AList (insert (items_of (Some self.old)) place value)) }
+        requires within { place ≤ length (items_held (Some self.old)) }
+        ensures ok { OnOk result (self.new ≡ AList (insert (items_held (Some self.old)) place value)) }
         ensures err { OnErr result (self.new ≡ self.old) }
     {
         match &mut self.form {
@@ -137,8 +137,8 @@ impl Object {
     /// Puts a value in the place of an item of a list.
     pub fn set(&mut self, place: usize, value: Value)
         requires kind { IsTrue (is_list (Some self.old)) }
-        requires within { place < length (items_of (Some self.old)) }
-        ensures { self.new ≡ AList (slice_set (items_of (Some self.old)) place value) }
+        requires within { place < length (items_held (Some self.old)) }
+        ensures { self.new ≡ AList (slice_set (items_held (Some self.old)) place value) }
     {
         match &mut self.form {
             Form::List(items) => items[place] = value,
@@ -150,9 +150,9 @@ impl Object {
     /// Takes an item out of a list; what stands behind closes up.
     pub fn remove(&mut self, place: usize) -> Value
         requires kind { IsTrue (is_list (Some self.old)) }
-        requires within { place < length (items_of (Some self.old)) }
-        ensures item { slice_get (items_of (Some self.old)) place ≡ Some result }
-        ensures rest { self.new ≡ AList (remove (items_of (Some self.old)) place) }
+        requires within { place < length (items_held (Some self.old)) }
+        ensures item { slice_get (items_held (Some self.old)) place ≡ Some result }
+        ensures rest { self.new ≡ AList (remove (items_held (Some self.old)) place) }
     {
         match &mut self.form {
             Form::List(items) => items.remove(place),
@@ -176,7 +176,7 @@ impl Object {
     /// memory is wanting nothing changes, and the key and the value are dropped.
     pub fn put(&mut self, key: Key, value: Value) -> Result<(), NoMemory>
         requires { IsTrue (is_dict (Some self.old)) }
-        ensures ok { OnOk result (self.new ≡ ADict (state.dict_put (pairs_of (Some self.old)) key value)) }
+        ensures ok { OnOk result (self.new ≡ ADict (state.dict_put (pairs_held (Some self.old)) key value)) }
         ensures err { OnErr result (self.new ≡ self.old) }
     {
         match &mut self.form {
@@ -190,8 +190,8 @@ impl Object {
     /// Takes a key with its value out of a dict, if it is there; the pairs behind it close up.
     pub fn take(&mut self, key: &Key) -> Option<Value>
         requires { IsTrue (is_dict (Some self.old)) }
-        ensures value { result ≡ state.dict_get (pairs_of (Some self.old)) key.now }
-        ensures rest { self.new ≡ ADict (state.dict_without (pairs_of (Some self.old)) key.now) }
+        ensures value { result ≡ state.dict_get (pairs_held (Some self.old)) key.now }
+        ensures rest { self.new ≡ ADict (state.dict_without (pairs_held (Some self.old)) key.now) }
     {
         match &mut self.form {
             Form::Dict(held) => pairs::remove(held, key),
@@ -203,8 +203,8 @@ impl Object {
     /// Puts a value in the place of a default of a function.
     pub fn set_default(&mut self, place: usize, value: Value)
         requires kind { IsTrue (is_function (Some self.old)) }
-        requires within { place < length (defaults_in (parts_of (Some self.old))) }
-        ensures { IfSome (parts_of (Some self.old)) (λ parts. self.new ≡ AFunction parts.0 parts.1 (slice_set parts.2 place value)) }
+        requires within { place < length (defaults_in (function_held (Some self.old))) }
+        ensures { IfSome (function_held (Some self.old)) (λ parts. self.new ≡ AFunction parts.0 parts.1 (slice_set parts.2 place value)) }
     {
         match &mut self.form {
             Form::Function(_, _, defaults) => defaults.set(place, value),

@@ -52,7 +52,7 @@ pub fn remove(pairs: &mut Vec<Pair>, key: &Key) -> Option<Value>
 
 /// The place of a key, or the number of pairs where none has it.
 fn place_of(pairs: &[Pair], key: &Key) -> usize
-    ensures { result ≡ places.place_of pairs.now key.now }
+    ensures { result ≡ places.key_place pairs.now key.now }
 {
     for (place, pair) in pairs.iter().enumerate() {
         if *key == pair.0 {

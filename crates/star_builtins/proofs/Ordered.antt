@@ -17,7 +17,7 @@ use Rattle.star_value.specs.declared.value.Value.TheOpen.{Value-F}
 use Rattle.star_value.specs.declared.value.Value.TheVariants as value
 use Rattle.star_meaning.specs.State.{State, list}
 use Rattle.star_meaning.specs.Steps.{Went, Failed, Action, Store, pure, fail, charge, and_then}
-use Rattle.star_meaning.specs.Comparing.{Verdict, compare, ordered_as, are_ordered, compared, equal, in_order, search_in, within, within_at, within_list, within_dict, within_text}
+use Rattle.star_meaning.specs.Comparing.{Verdict, compare, ordered_as, are_ordered, compared, equal, by_order, search_in, within, within_at, within_list, within_dict, within_text}
 use Rattle.star_meaning.specs.Values.{text_at, text_in, int_at, int_in, range_gives, is_place_of, is_zero, rest_of, floor_of}
 use Rattle.star_meaning.proofs.Equations.{out_none, out_bool, out_int, out_text, out_tuple, out_range, out_list, out_dict, out_function, out_builtin}
 use Rattle.star_builtins.specs.Weighing.{tuple_at, list_at, searched, steps_to, on_step}
@@ -41,16 +41,16 @@ ordered_list id _ = refl
 pub ruleset kinds = (ordered_int, ordered_text, ordered_tuple, ordered_list)
 
 module _ {C : Type 0} where
-  pub order_wrong : (answer : Verdict → Action C Bool) (a b : Value) (s : Store C) → are_ordered (out-Value a) (out-Value b) ≡ false → in_order answer a b s ≡ Failed failure.WrongType s
-  unfolding in_order
+  pub order_wrong : (answer : Verdict → Action C Bool) (a b : Value) (s : Store C) → are_ordered (out-Value a) (out-Value b) ≡ false → by_order answer a b s ≡ Failed failure.WrongType s
+  unfolding by_order
   order_wrong answer a b s h = rw h refl
 
-  pub order_failed : (answer : Verdict → Action C Bool) (a b : Value) (s next : Store C) (e : Failure) → are_ordered (out-Value a) (out-Value b) ≡ true → compared false 64 a b s ≡ Failed e next → in_order answer a b s ≡ Failed e next
-  unfolding in_order
+  pub order_failed : (answer : Verdict → Action C Bool) (a b : Value) (s next : Store C) (e : Failure) → are_ordered (out-Value a) (out-Value b) ≡ true → compared false 64 a b s ≡ Failed e next → by_order answer a b s ≡ Failed e next
+  unfolding by_order
   order_failed answer a b s next e h failed = rw (h, failed) refl
 
-  pub order_went : (answer : Verdict → Action C Bool) (a b : Value) (s next : Store C) (v : Verdict) → are_ordered (out-Value a) (out-Value b) ≡ true → compared false 64 a b s ≡ Went v next → in_order answer a b s ≡ answer v next
-  unfolding in_order
+  pub order_went : (answer : Verdict → Action C Bool) (a b : Value) (s next : Store C) (v : Verdict) → are_ordered (out-Value a) (out-Value b) ≡ true → compared false 64 a b s ≡ Went v next → by_order answer a b s ≡ answer v next
+  unfolding by_order
   order_went answer a b s next v h went = rw (h, went) refl
 
   -- ---- the first equal item
@@ -302,19 +302,19 @@ module _ {C : Type 0} where
   unfolding compare
   compare_not_equal a b s = refl
 
-  pub compare_less : (a b : Value) (s : Store C) → compare op.Less a b s ≡ in_order (ordered_as true false false) a b s
+  pub compare_less : (a b : Value) (s : Store C) → compare op.Less a b s ≡ by_order (ordered_as true false false) a b s
   unfolding compare
   compare_less a b s = refl
 
-  pub compare_greater : (a b : Value) (s : Store C) → compare op.Greater a b s ≡ in_order (ordered_as false false true) a b s
+  pub compare_greater : (a b : Value) (s : Store C) → compare op.Greater a b s ≡ by_order (ordered_as false false true) a b s
   unfolding compare
   compare_greater a b s = refl
 
-  pub compare_at_most : (a b : Value) (s : Store C) → compare op.AtMost a b s ≡ in_order (ordered_as true true false) a b s
+  pub compare_at_most : (a b : Value) (s : Store C) → compare op.AtMost a b s ≡ by_order (ordered_as true true false) a b s
   unfolding compare
   compare_at_most a b s = refl
 
-  pub compare_at_least : (a b : Value) (s : Store C) → compare op.AtLeast a b s ≡ in_order (ordered_as false true true) a b s
+  pub compare_at_least : (a b : Value) (s : Store C) → compare op.AtLeast a b s ≡ by_order (ordered_as false true true) a b s
   unfolding compare
   compare_at_least a b s = refl
 

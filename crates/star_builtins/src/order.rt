@@ -64,7 +64,7 @@ pub fn in_order(
 ) -> Result<bool, Failure>
     requires left { IsTrue (fits machine.now.state.objects left.now) }
     requires right { IsTrue (fits machine.now.state.objects right.now) }
-    ensures { Answers (spec.in_order (spec.ordered_as holds.before holds.same holds.after) left.now right.now (store machine.now meter.old.left)) result (store machine.now meter.new.left) }
+    ensures { Answers (spec.by_order (spec.ordered_as holds.before holds.same holds.after) left.now right.now (store machine.now meter.old.left)) result (store machine.now meter.new.left) }
 {
     if !are_ordered(left, right) {
         return Err(Failure::WrongType);

@@ -4,6 +4,7 @@ use Rattle.std.specs.Prelude.{sum, option_map}
 use Rattle.star_syntax.specs.declared.expression.ChainLevel.{ChainLevel}
 use Rattle.star_syntax.specs.declared.expression.Clause.{Clause}
 use Rattle.star_syntax.specs.declared.expression.Clause.TheVariants as clause
+use Rattle.star_syntax.specs.declared.expression.Arm.{Arm}
 use Rattle.star_syntax.specs.declared.expression.Expr.{Expr, fold-roll-Expr, map-Expr, roll-Expr}
 use Rattle.star_syntax.specs.declared.expression.Expr.TheOpen.{Expr-F}
 use Rattle.star_syntax.specs.declared.expression.Expr.TheVariants as e
@@ -38,7 +39,7 @@ use Rattle.star_meaning.specs.Showing.{Naming, quoted_at, quoted_in}
 use Rattle.star_meaning.specs.Builtins.{ByName}
 use Rattle.star_meaning.specs.Expressions as expressions
 use Rattle.star_meaning.specs.Expressions.{Setting, Callee, Meant, meant, step, target_names}
-use Rattle.star_meaning.specs.World.{World, seen}
+use Rattle.star_meaning.specs.World.{World, reading}
 use Rattle.star_meaning.specs.Statements.{Doing, call_to, run_function, layer_names, layer_of, statement_names, statement_of}
 use Rattle.star_syntax.specs.Cells.{def_of, layer_def}
 
@@ -297,8 +298,8 @@ module _ {C : Type 0} (setting : Setting C) (call : Callee C) where
   pub meant_not : (count : ℕ) → (x : Expr) → meant setting call (e.Not count x) ≡ step setting call (map-Expr Expr (Meant C) (meant setting call) (Expr-F.Not count x))
   meant_not count x = ap (meant setting call) (sym (e.rolls-Not count x)) ∙ meant_roll (Expr-F.Not count x)
 
-  pub meant_conditional : (a : Expr) → (condition : Expr) → (b : Expr) → meant setting call (e.Conditional a condition b) ≡ step setting call (map-Expr Expr (Meant C) (meant setting call) (Expr-F.Conditional a condition b))
-  meant_conditional a condition b = ap (meant setting call) (sym (e.rolls-Conditional a condition b)) ∙ meant_roll (Expr-F.Conditional a condition b)
+  pub meant_conditional : (arms : List (Arm Expr)) → (last : Expr) → meant setting call (e.Conditional arms last) ≡ step setting call (map-Expr Expr (Meant C) (meant setting call) (Expr-F.Conditional arms last))
+  meant_conditional arms last = ap (meant setting call) (sym (e.rolls-Conditional arms last)) ∙ meant_roll (Expr-F.Conditional arms last)
 
   statement_roll : (x : Statement-F Statement) → statement_of setting call (roll-Statement x) ≡ layer_of setting call (map-Statement Statement (Doing C) (statement_of setting call) x)
   unfolding statement_of
@@ -386,9 +387,9 @@ pub names_not : (count : ℕ) → (x : Expr) → target_names (e.Not count x) �
 unfolding target_names
 names_not count x = ap target_names (sym (e.rolls-Not count x)) ∙ fold-roll-Expr (List (List ℕ)) expressions.layer_names (Expr-F.Not count x)
 
-pub names_conditional : (a : Expr) → (condition : Expr) → (b : Expr) → target_names (e.Conditional a condition b) ≡ expressions.layer_names (map-Expr Expr (List (List ℕ)) target_names (Expr-F.Conditional a condition b))
+pub names_conditional : (arms : List (Arm Expr)) → (last : Expr) → target_names (e.Conditional arms last) ≡ expressions.layer_names (map-Expr Expr (List (List ℕ)) target_names (Expr-F.Conditional arms last))
 unfolding target_names
-names_conditional a condition b = ap target_names (sym (e.rolls-Conditional a condition b)) ∙ fold-roll-Expr (List (List ℕ)) expressions.layer_names (Expr-F.Conditional a condition b)
+names_conditional arms last = ap target_names (sym (e.rolls-Conditional arms last)) ∙ fold-roll-Expr (List (List ℕ)) expressions.layer_names (Expr-F.Conditional arms last)
 
 pub bound_line : (line : Line) → statement_names (s.Line line) ≡ layer_names (map-Statement Statement (List (List ℕ)) statement_names (Statement-F.Line line))
 unfolding statement_names
@@ -432,7 +433,7 @@ compared_step : {C : Type 0} (by_length : Bool) (n : ℕ) (a b : Value) (s : Sto
 unfolding compared
 compared_step by_length n a b s = refl
 
-call_step : {C : Type 0} (setting : Setting C) (n id : ℕ) (vs : List Value) (named : ByName) (w : World C) → call_to setting (suc n) id vs named w ≡ (seen (λ s. function s id) >>= (λ parts. run_function setting (call_to setting n) id parts vs named)) w
+call_step : {C : Type 0} (setting : Setting C) (n id : ℕ) (vs : List Value) (named : ByName) (w : World C) → call_to setting (suc n) id vs named w ≡ (reading (λ s. function s id) >>= (λ parts. run_function setting (call_to setting n) id parts vs named)) w
 unfolding call_to
 call_step setting n id vs named w = refl
 
@@ -454,10 +455,10 @@ quoted_62 naming v s = quoted_step naming 61 v s
 pub compared_62 : {C : Type 0} (by_length : Bool) (a b : Value) (s : Store C) → compared by_length 62 a b s ≡ (charge (own_part a b) >> look by_length (Some (compared by_length 61)) (out-Value a) (out-Value b)) s
 compared_62 by_length a b s = compared_step by_length 61 a b s
 
-pub call_32 : {C : Type 0} (setting : Setting C) (id : ℕ) (vs : List Value) (named : ByName) (w : World C) → call_to setting 32 id vs named w ≡ (seen (λ s. function s id) >>= (λ parts. run_function setting (call_to setting 31) id parts vs named)) w
+pub call_32 : {C : Type 0} (setting : Setting C) (id : ℕ) (vs : List Value) (named : ByName) (w : World C) → call_to setting 32 id vs named w ≡ (reading (λ s. function s id) >>= (λ parts. run_function setting (call_to setting 31) id parts vs named)) w
 call_32 setting id vs named w = call_step setting 31 id vs named w
 
-pub call_31 : {C : Type 0} (setting : Setting C) (id : ℕ) (vs : List Value) (named : ByName) (w : World C) → call_to setting 31 id vs named w ≡ (seen (λ s. function s id) >>= (λ parts. run_function setting (call_to setting 30) id parts vs named)) w
+pub call_31 : {C : Type 0} (setting : Setting C) (id : ℕ) (vs : List Value) (named : ByName) (w : World C) → call_to setting 31 id vs named w ≡ (reading (λ s. function s id) >>= (λ parts. run_function setting (call_to setting 30) id parts vs named)) w
 call_31 setting id vs named w = call_step setting 30 id vs named w
 
 pub ruleset layers = (quoted_64, compared_64, quoted_63, compared_63, quoted_62, compared_62, call_32, call_31, out_key_none, out_key_bool, out_key_int, out_key_text, out_key_tuple, same_none, same_bool, same_int, same_text, same_tuple, out_none, out_bool, out_int, out_text, out_tuple, out_range, out_list, out_dict, out_function, out_builtin, weight_none, weight_bool, weight_int, weight_text, weight_tuple, weight_range, weight_list, weight_dict, weight_function, weight_builtin, depth_none, depth_bool, depth_int, depth_text, depth_tuple, depth_range, depth_list, depth_dict, depth_function, depth_builtin, key_none, key_bool, key_int, key_text, key_tuple, key_range, key_list, key_dict, key_function, key_builtin, value_none, value_bool, value_int, value_text, value_tuple, meant_name, meant_int, meant_text, meant_none, meant_true, meant_false, meant_paren, meant_tuple, meant_list, meant_listover, meant_dict, meant_dictover, meant_primary, meant_signed, meant_chain, meant_compare, meant_not, meant_conditional, statement_line, statement_if, statement_for, statement_def, names_name, names_int, names_text, names_none, names_true, names_false, names_paren, names_tuple, names_list, names_listover, names_dict, names_dictover, names_primary, names_signed, names_chain, names_compare, names_not, names_conditional, bound_line, bound_if, bound_for, bound_def, def_line, def_if, def_for, def_def)

@@ -2,6 +2,7 @@
 use Rattle.std.proofs.Common.{◌≡◌, ℕ, List, [], ◌∷◌, map, Bool, false, refl, ap, ◌∙◌}
 use Rattle.std.specs.Prelude.{Option, Some, None, option_map}
 use Rattle.star_syntax.specs.declared.expression.Arguments.{Arguments}
+use Rattle.star_syntax.specs.declared.expression.Arm.{Arm}
 use Rattle.star_syntax.specs.declared.expression.ChainLevel.{ChainLevel}
 use Rattle.star_syntax.specs.declared.expression.Expr.{Expr, map-Expr}
 use Rattle.star_syntax.specs.declared.expression.Expr.TheOpen.{Expr-F}
@@ -20,8 +21,8 @@ use Rattle.star_syntax.specs.declared.statement.Statement.TheVariants as s
 use Rattle.star_meaning.specs.Steps.{◌>>=◌}
 use Rattle.star_meaning.specs.World.{World}
 use Rattle.star_meaning.specs.Expressions.{Callee, Meant, Setting, meant, step}
-use Rattle.star_meaning.specs.Statements.{Doing, block_of, body_of, go_on, in_order, layer_of, statement_of}
-use Rattle.star_meaning.proofs.Equations.{meant_chain, meant_dict, meant_primary, statement_for, statement_if}
+use Rattle.star_meaning.specs.Statements.{Doing, block_of, body_of, go_on, in_sequence, layer_of, statement_of}
+use Rattle.star_meaning.proofs.Equations.{meant_chain, meant_conditional, meant_dict, meant_primary, statement_for, statement_if}
 
 links_in : {X : Type 0} → Expr-F X → List (Link X)
 links_in (Expr-F.Chain level first xs) = xs
@@ -30,6 +31,10 @@ links_in _ = []
 pairs_in : {X : Type 0} → Expr-F X → List (Pair X)
 pairs_in (Expr-F.Dict xs comma) = xs
 pairs_in _ = []
+
+arms_in : {X : Type 0} → Expr-F X → List (Arm X)
+arms_in (Expr-F.Conditional xs last) = xs
+arms_in _ = []
 
 suffixes_in : {X : Type 0} → Expr-F X → List (Suffix X)
 suffixes_in (Expr-F.Primary head xs) = xs
@@ -46,6 +51,9 @@ module _ {C : Type 0} (setting : Setting C) (call : Callee C) where
 
   abbrev pub link_meant : Link Expr → Link (Meant C)
   link_meant x = record { op = x.op; operand = meant setting call x.operand }
+
+  abbrev pub arm_meant : Arm Expr → Arm (Meant C)
+  arm_meant x = record { value = meant setting call x.value; condition = meant setting call x.condition }
 
   abbrev pub pair_meant : Pair Expr → Pair (Meant C)
   pair_meant x = record { key = meant setting call x.key; value = meant setting call x.value }
@@ -124,6 +132,15 @@ module _ {C : Type 0} (setting : Setting C) (call : Callee C) where
   unfolding suffixes_in
   primary_is head suffixes = meant_primary setting call head suffixes ∙ ap (λ xs. step setting call (Expr-F.Primary (to head) xs)) (suffixes_again head suffixes)
 
+  arms_again : (last : Expr) (xs : List (Arm Expr)) → arms_in (map-Expr Expr (Meant C) to (Expr-F.Conditional xs last)) ≡ map arm_meant xs
+  unfolding arms_in
+  arms_again last [] = refl
+  arms_again last (x ∷ xs) = ap (λ ys. arm_meant x ∷ ys) (arms_again last xs)
+
+  pub conditional_is : (arms : List (Arm Expr)) (last : Expr) → meant setting call (e.Conditional arms last) ≡ step setting call (Expr-F.Conditional (map arm_meant arms) (meant setting call last))
+  unfolding arms_in
+  conditional_is arms last = meant_conditional setting call arms last ∙ ap (λ xs. step setting call (Expr-F.Conditional xs (to last))) (arms_again last arms)
+
   -- ---- statements with blocks
 
   abbrev pub block_done : Block Statement → Block (Doing C)
@@ -193,10 +210,10 @@ module _ {C : Type 0} (setting : Setting C) (call : Callee C) where
       ∙ ap (λ o. layer_of setting call (Statement-F.If at (branch_done first) (map branch_done more) o) last number w) (else_again at first more other)
 
   -- statements in a block, one after another
-  in_order_again : (last : Bool) (all : List Statement) → in_order (λ l s. s false None) last (map (statement_of setting call) all) ≡ in_order (λ l s. statement_of setting call s false None) last all
-  in_order_again last [] = refl
-  in_order_again last (x ∷ all) = ap (λ rest. statement_of setting call x false None >>= go_on rest) (in_order_again last all)
+  in_sequence_again : (last : Bool) (all : List Statement) → in_sequence (λ l s. s false None) last (map (statement_of setting call) all) ≡ in_sequence (λ l s. statement_of setting call s false None) last all
+  in_sequence_again last [] = refl
+  in_sequence_again last (x ∷ all) = ap (λ rest. statement_of setting call x false None >>= go_on rest) (in_sequence_again last all)
 
   pub block_is : (body : Block Statement) → block_of setting call (block_done body) ≡ body_of setting call body
   block_is (blocks.Inline line) = refl
-  block_is (blocks.Indented all) = in_order_again false all
+  block_is (blocks.Indented all) = in_sequence_again false all

@@ -1,5 +1,6 @@
 pub mod Equations
 pub mod Evaluated
+pub mod FewCalls
 pub mod Forms
 pub mod GrownLemmas
 pub mod OneCell

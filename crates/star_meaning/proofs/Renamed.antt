@@ -5,7 +5,7 @@ use Rattle.star_value.specs.declared.failure.Failure.{Failure}
 use Rattle.star_value.specs.declared.key.Key.{Key}
 use Rattle.star_value.specs.declared.value.Value.{Value}
 use Rattle.star_value.specs.Charge.{charged}
-use Rattle.star_meaning.specs.State.{Object, AList, ADict, AFunction, State, items_of, pairs_of, object, list, dict, next_id, with_new, with_list, with_dict}
+use Rattle.star_meaning.specs.State.{Object, AList, ADict, AFunction, State, items_held, pairs_held, object, list, dict, next_id, with_new, with_list, with_dict}
 use Rattle.star_meaning.specs.Steps.{Outcome, Went, Failed, Store, Action, and_then, paid, ◌>>=◌, pure, fail, given_or, charge, read, change}
 use Rattle.star_meaning.specs.Validity.{renamed}
 use Rattle.star_meaning.specs.Renaming.{Names, state_as, store_as, outcome_as, reached, Same}
@@ -20,13 +20,13 @@ module _ {C D : Type 0} (name : C → D) where
   get_same (o ∷ os) zero = refl
   get_same (o ∷ os) (suc id) = get_same os id
 
-  items_same : (o : Option (Object C)) → items_of (option_map (renamed name) o) ≡ items_of o
+  items_same : (o : Option (Object C)) → items_held (option_map (renamed name) o) ≡ items_held o
   items_same None = refl
   items_same (Some (AList items)) = refl
   items_same (Some (ADict pairs)) = refl
   items_same (Some (AFunction cell number defaults)) = refl
 
-  pairs_same : (o : Option (Object C)) → pairs_of (option_map (renamed name) o) ≡ pairs_of o
+  pairs_same : (o : Option (Object C)) → pairs_held (option_map (renamed name) o) ≡ pairs_held o
   pairs_same None = refl
   pairs_same (Some (AList items)) = refl
   pairs_same (Some (ADict pairs)) = refl
@@ -34,11 +34,11 @@ module _ {C D : Type 0} (name : C → D) where
 
   pub list_as : (s : State C) (id : ℕ) → list (state_as name s) id ≡ list s id
   unfolding list object
-  list_as s id = ap items_of (get_same s.objects id) ∙ items_same (slice_get s.objects id)
+  list_as s id = ap items_held (get_same s.objects id) ∙ items_same (slice_get s.objects id)
 
   pub dict_as : (s : State C) (id : ℕ) → dict (state_as name s) id ≡ dict s id
   unfolding dict object
-  dict_as s id = ap pairs_of (get_same s.objects id) ∙ pairs_same (slice_get s.objects id)
+  dict_as s id = ap pairs_held (get_same s.objects id) ∙ pairs_same (slice_get s.objects id)
 
   set_same : (os : List (Object C)) (id : ℕ) (o : Object C) → slice_set (map (renamed name) os) id (renamed name o) ≡ map (renamed name) (slice_set os id o)
   set_same [] id o = refl

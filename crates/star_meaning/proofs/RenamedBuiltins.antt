@@ -14,7 +14,7 @@ use Rattle.star_meaning.specs.State.{State, dict_put}
 use Rattle.star_meaning.specs.Steps.{Action, ◌>>=◌, pure}
 use Rattle.star_meaning.specs.Values.{items_of, new_dict, in_range, is_empty, is_true, is_zero, type_name}
 use Rattle.star_meaning.specs.Showing.{Naming, quoted, shown}
-use Rattle.star_meaning.specs.Builtins.{ByName, absolute, all_items, are_alike, as_int, as_int_or, as_text, as_value, backwards, best_argument, best_item, call_builtin, check, copied_pairs, count_at, dict_from, dict_of, enumerate, extreme, in_order, int_of, int_of_text, is_before, is_print, last_number, len, list_of, list_of_tuples, numbered, only_named, pair_at, pairs_from, printed, range, range_of, read_int, result_of, reversed, rows_of, separator, sorted, tested, truth, tuple_of, tuples, two_of, unnamed, walk_alike, walk_first, walk_tuple, with_one, with_one_or_two, with_optional, zip}
+use Rattle.star_meaning.specs.Builtins.{ByName, absolute, all_items, are_alike, as_int, as_int_or, as_text, as_value, backwards, best_argument, best_item, call_builtin, check, copied_pairs, count_at, dict_from, dict_of, enumerate, extreme, sorted_items, int_of, int_of_text, is_before, last_number, len, list_of, list_of_tuples, numbered, only_named, pair_at, pairs_from, printed, range, range_of, read_int, reversed, rows_of, separator, silent, sorted, tested, truth, tuple_of, tuples, two_of, unnamed, walk_alike, walk_first, walk_tuple, with_one, with_one_or_two, with_optional, zip}
 use Rattle.star_meaning.specs.Renaming.{Names, state_as, Same}
 use Rattle.star_meaning.proofs.Renamed.{same_then, same_pure, same_fail, same_given_or, same_charge, same_read, list_as, dict_as}
 use Rattle.star_meaning.proofs.RenamedComparing.{same_if_then, same_key_in, same_list, same_dict}
@@ -223,7 +223,7 @@ module _ {C D : Type 0} (name : Names C D) where
   same_sorted : (n : ByName) (v : Value) → Same name (sorted n v) (sorted n v)
   same_sorted n v =
       same_then name _ _ _ _ (same_given_or name failure.WrongArguments (only_named (codes "reverse") n)) (λ given. same_then name _ _ _ _ (same_items_of name v) (λ items. same_then name _ _ _ _ (same_backwards given) (λ back.
-      same_then name _ _ _ _ (same_walk_first items) (λ _. same_new_list name (if back then reverse (in_order items) else in_order items)))))
+      same_then name _ _ _ _ (same_walk_first items) (λ _. same_new_list name (if back then reverse (sorted_items items) else sorted_items items)))))
 
   same_best_item : (f : Value → Value → Bool) (xs : List Value) → Same name (best_item f xs) (best_item f xs)
   same_best_item f [] = same_fail name _
@@ -244,29 +244,28 @@ module _ {C D : Type 0} (name : Names C D) where
         same_then name _ _ _ _ (same_given_or name failure.WrongArguments (only_named (codes "sep") n)) (λ by. same_then name _ _ _ _ (same_separator by) (λ sep.
         same_joined name _ _ _ _ (same_made_between name sep (shown nc) (shown nd) (same_shown name nc nd hn) vs) (same_made name (10 ∷ []))))
 
-    same_result_of : (which : Builtin) (vs : List Value) (n : ByName) → Same name (result_of nc which vs n) (result_of nd which vs n)
-    same_result_of builtin.Abs vs n = same_unnamed n _ _ (same_with_one absolute absolute same_absolute vs)
-    same_result_of builtin.All vs n = same_unnamed n _ _ (same_with_one (tested list_all) (tested list_all) (same_tested list_all all_as) vs)
-    same_result_of builtin.Any vs n = same_unnamed n _ _ (same_with_one (tested list_any) (tested list_any) (same_tested list_any any_as) vs)
-    same_result_of builtin.Bool vs n = same_unnamed n _ _ (same_with_one truth truth same_truth vs)
-    same_result_of builtin.Dict vs n = same_unnamed n _ _ (same_with_optional dict_of dict_of same_dict_of vs)
-    same_result_of builtin.Enumerate vs n = same_unnamed n _ _ (same_with_one_or_two enumerate enumerate same_enumerate vs)
-    same_result_of builtin.Int vs n = same_unnamed n _ _ (same_with_one (λ v. int_of (out-Value v)) (λ v. int_of (out-Value v)) (λ v. same_int_of (out-Value v)) vs)
-    same_result_of builtin.Len vs n = same_unnamed n _ _ (same_with_one len len same_len vs)
-    same_result_of builtin.List vs n = same_unnamed n _ _ (same_with_optional list_of list_of same_list_of vs)
-    same_result_of builtin.Max vs n = same_unnamed n _ _ (same_extreme (λ y x. is_before x y) vs)
-    same_result_of builtin.Min vs n = same_unnamed n _ _ (same_extreme is_before vs)
-    same_result_of builtin.Print vs n = same_then name _ _ _ _ (same_printed vs n) (λ _. same_pure name _)
-    same_result_of builtin.Range vs n = same_unnamed n _ _ (same_range vs)
-    same_result_of builtin.Repr vs n = same_unnamed n _ _ (same_with_one (λ v. as_value (quoted nc v)) (λ v. as_value (quoted nd v)) (λ v. same_as_value _ _ (same_quoted name nc nd hn v)) vs)
-    same_result_of builtin.Reversed vs n = same_unnamed n _ _ (same_with_one reversed reversed same_reversed vs)
-    same_result_of builtin.Sorted vs n = same_with_one (sorted n) (sorted n) (same_sorted n) vs
-    same_result_of builtin.Str vs n = same_unnamed n _ _ (same_with_one (λ v. as_value (shown nc v)) (λ v. as_value (shown nd v)) (λ v. same_as_value _ _ (same_shown name nc nd hn v)) vs)
-    same_result_of builtin.Tuple vs n = same_unnamed n _ _ (same_with_optional tuple_of tuple_of same_tuple_of vs)
-    same_result_of builtin.Type vs n = same_unnamed n _ _ (same_with_one (λ v. pure (value.Text (type_name v))) (λ v. pure (value.Text (type_name v))) (λ v. same_pure name (value.Text (type_name v))) vs)
-    same_result_of builtin.Zip vs n = same_unnamed n _ _ (same_zip vs)
+    same_silent : (p : Action C Value) (q : Action D Value) → Same name p q → Same name (silent p) (silent q)
+    same_silent p q h = same_then name _ _ _ _ h (λ v. same_pure name _)
 
     pub same_call_builtin : (which : Builtin) (vs : List Value) (n : ByName) → Same name (call_builtin nc which vs n) (call_builtin nd which vs n)
     unfolding call_builtin
-    same_call_builtin which vs n =
-        same_if_then name (is_print which) _ _ _ _ (same_then name _ _ _ _ (same_printed vs n) (λ text. same_pure name _)) (same_then name _ _ _ _ (same_result_of which vs n) (λ v. same_pure name _))
+    same_call_builtin builtin.Abs vs n = same_silent _ _ (same_unnamed n _ _ (same_with_one absolute absolute same_absolute vs))
+    same_call_builtin builtin.All vs n = same_silent _ _ (same_unnamed n _ _ (same_with_one (tested list_all) (tested list_all) (same_tested list_all all_as) vs))
+    same_call_builtin builtin.Any vs n = same_silent _ _ (same_unnamed n _ _ (same_with_one (tested list_any) (tested list_any) (same_tested list_any any_as) vs))
+    same_call_builtin builtin.Bool vs n = same_silent _ _ (same_unnamed n _ _ (same_with_one truth truth same_truth vs))
+    same_call_builtin builtin.Dict vs n = same_silent _ _ (same_unnamed n _ _ (same_with_optional dict_of dict_of same_dict_of vs))
+    same_call_builtin builtin.Enumerate vs n = same_silent _ _ (same_unnamed n _ _ (same_with_one_or_two enumerate enumerate same_enumerate vs))
+    same_call_builtin builtin.Int vs n = same_silent _ _ (same_unnamed n _ _ (same_with_one (λ v. int_of (out-Value v)) (λ v. int_of (out-Value v)) (λ v. same_int_of (out-Value v)) vs))
+    same_call_builtin builtin.Len vs n = same_silent _ _ (same_unnamed n _ _ (same_with_one len len same_len vs))
+    same_call_builtin builtin.List vs n = same_silent _ _ (same_unnamed n _ _ (same_with_optional list_of list_of same_list_of vs))
+    same_call_builtin builtin.Max vs n = same_silent _ _ (same_unnamed n _ _ (same_extreme (λ y x. is_before x y) vs))
+    same_call_builtin builtin.Min vs n = same_silent _ _ (same_unnamed n _ _ (same_extreme is_before vs))
+    same_call_builtin builtin.Print vs n = same_then name _ _ _ _ (same_printed vs n) (λ text. same_pure name _)
+    same_call_builtin builtin.Range vs n = same_silent _ _ (same_unnamed n _ _ (same_range vs))
+    same_call_builtin builtin.Repr vs n = same_silent _ _ (same_unnamed n _ _ (same_with_one (λ v. as_value (quoted nc v)) (λ v. as_value (quoted nd v)) (λ v. same_as_value _ _ (same_quoted name nc nd hn v)) vs))
+    same_call_builtin builtin.Reversed vs n = same_silent _ _ (same_unnamed n _ _ (same_with_one reversed reversed same_reversed vs))
+    same_call_builtin builtin.Sorted vs n = same_silent _ _ (same_with_one (sorted n) (sorted n) (same_sorted n) vs)
+    same_call_builtin builtin.Str vs n = same_silent _ _ (same_unnamed n _ _ (same_with_one (λ v. as_value (shown nc v)) (λ v. as_value (shown nd v)) (λ v. same_as_value _ _ (same_shown name nc nd hn v)) vs))
+    same_call_builtin builtin.Tuple vs n = same_silent _ _ (same_unnamed n _ _ (same_with_optional tuple_of tuple_of same_tuple_of vs))
+    same_call_builtin builtin.Type vs n = same_silent _ _ (same_unnamed n _ _ (same_with_one (λ v. pure (value.Text (type_name v))) (λ v. pure (value.Text (type_name v))) (λ v. same_pure name (value.Text (type_name v))) vs))
+    same_call_builtin builtin.Zip vs n = same_silent _ _ (same_unnamed n _ _ (same_zip vs))

@@ -9,7 +9,7 @@ use Rattle.star_value.specs.declared.value.Value.{Value, out-Value}
 use Rattle.star_value.specs.declared.value.Value.TheOpen.{Value-F}
 use Rattle.star_meaning.specs.State.{list, dict, dict_get}
 use Rattle.star_meaning.specs.Steps.{Action, read}
-use Rattle.star_meaning.specs.Comparing.{Verdict, Same as Equal, Before, After, Apart, Test, onward, walk, walk_lists, same_value, walk_found, walk_pairs, walk_dicts, deeper, look, compared, equal, ordered_as, are_ordered, in_order, search_from, search_in, stop_or, within_list, key_in, within_dict, within_text, within_at, within, negated, compare}
+use Rattle.star_meaning.specs.Comparing.{Verdict, Same as Equal, Before, After, Apart, Test, onward, walk, walk_lists, same_value, walk_found, walk_pairs, walk_dicts, deeper, look, compared, equal, ordered_as, are_ordered, by_order, search_from, search_in, stop_or, within_list, key_in, within_dict, within_text, within_at, within, negated, compare}
 use Rattle.star_meaning.specs.Renaming.{Names, Same}
 use Rattle.star_meaning.proofs.Renamed.{same_then, same_pure, same_fail, same_given_or, same_charge, same_read, list_as, dict_as}
 
@@ -101,9 +101,9 @@ module _ {C D : Type 0} (name : Names C D) where
   same_ordered_as x y z After = same_pure name _
   same_ordered_as x y z Apart = same_fail name _
 
-  same_in_order : (f : Verdict → Action C Bool) (g : Verdict → Action D Bool) → ((v : Verdict) → Same name (f v) (g v)) → (a b : Value) → Same name (in_order f a b) (in_order g a b)
-  unfolding in_order
-  same_in_order f g h a b = same_if_then (are_ordered (out-Value a) (out-Value b)) _ _ _ _ (same_then name _ _ _ _ (same_compared false 64 a b) h) (same_fail name _)
+  same_by_order : (f : Verdict → Action C Bool) (g : Verdict → Action D Bool) → ((v : Verdict) → Same name (f v) (g v)) → (a b : Value) → Same name (by_order f a b) (by_order g a b)
+  unfolding by_order
+  same_by_order f g h a b = same_if_then (are_ordered (out-Value a) (out-Value b)) _ _ _ _ (same_then name _ _ _ _ (same_compared false 64 a b) h) (same_fail name _)
 
   same_stop_or : (b : Bool) (n : ℕ) (p : Action C (Option ℕ)) (q : Action D (Option ℕ)) → Same name p q → Same name (stop_or b n p) (stop_or b n q)
   same_stop_or true n p q h = same_pure name _
@@ -148,9 +148,9 @@ module _ {C D : Type 0} (name : Names C D) where
   unfolding compare
   same_compare op.Equal x y = same_equal x y
   same_compare op.NotEqual x y = same_negated _ _ (same_equal x y)
-  same_compare op.Less x y = same_in_order _ _ (same_ordered_as true false false) x y
-  same_compare op.Greater x y = same_in_order _ _ (same_ordered_as false false true) x y
-  same_compare op.AtMost x y = same_in_order _ _ (same_ordered_as true true false) x y
-  same_compare op.AtLeast x y = same_in_order _ _ (same_ordered_as false true true) x y
+  same_compare op.Less x y = same_by_order _ _ (same_ordered_as true false false) x y
+  same_compare op.Greater x y = same_by_order _ _ (same_ordered_as false false true) x y
+  same_compare op.AtMost x y = same_by_order _ _ (same_ordered_as true true false) x y
+  same_compare op.AtLeast x y = same_by_order _ _ (same_ordered_as false true true) x y
   same_compare op.Within x y = same_within x y
   same_compare op.NotWithin x y = same_negated _ _ (same_within x y)

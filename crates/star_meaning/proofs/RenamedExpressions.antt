@@ -20,16 +20,16 @@ use Rattle.star_meaning.specs.Operators.{unpacked}
 use Rattle.star_meaning.specs.Builtins.{ByName}
 use Rattle.star_meaning.specs.Values.{has}
 use Rattle.star_meaning.specs.World.{Work, World, acting, distinct, in_block, lock_of, unbound}
-use Rattle.star_meaning.specs.Expressions.{item_value, Callee, Meant, call_function, choose, clause_names, clauses_from, compared, comprehension, dict_turn, display_pairs, input_value, list_turn, loop_over, method_called, named_from, new_items, new_key, next_item, optional_value, signed, step_value, store_at, store_each, store_in, store_items, tests_value, truth, values, values_from}
+use Rattle.star_meaning.specs.Expressions.{item_value, Callee, Meant, call_function, clause_names, clauses_from, compared, comprehension, dict_turn, display_pairs, input_value, list_turn, loop_over, method_called, named_from, new_key, next_item, optional_value, signed, step_value, store_at, store_each, store_in, store_items, tests_value, truth, values, values_from}
 use Rattle.star_meaning.specs.Renaming.{Names, world_as, outcome_as, reached, Same, SameSteps, SameCallee, SameMeant}
 use Rattle.star_meaning.specs.Growing.{Grown}
 use Rattle.star_meaning.proofs.GrownLemmas.{grown_same}
 use Rattle.star_meaning.proofs.Renamed.{same_then, same_pure, same_fail, same_charge}
 use Rattle.star_meaning.proofs.RenamedComparing.{same_if_then, same_compare, same_key_in}
-use Rattle.star_meaning.proofs.RenamedShowing.{is_true_as, same_items_of, same_new_list, same_new_tuple}
-use Rattle.star_meaning.proofs.RenamedOperators.{same_store, same_unary, same_unpacked}
+use Rattle.star_meaning.proofs.RenamedShowing.{is_true_as, same_items_of, same_new_tuple}
+use Rattle.star_meaning.proofs.RenamedOperators.{same_charged_list, same_store, same_unary, same_unpacked}
 use Rattle.star_meaning.proofs.RenamedMethods.{same_call_method}
-use Rattle.star_meaning.proofs.RenamedWorld.{same_acting, same_going, same_in_block, same_locking, same_next, same_operate, same_seen, same_turns}
+use Rattle.star_meaning.proofs.RenamedWorld.{same_acting, same_going, same_in_block, same_locking, same_next, same_operate, same_reading, same_turns}
 
 -- two lists of one length whose items correspond
 abbrev pub Each : {A B : Type 0} → (A → B → Type 0) → List A → List B → Type 0
@@ -95,9 +95,9 @@ module _ {C D : Type 0} (name : Names C D) where
   same_step_value (Some m) None h = absurd h
 
   pub same_truth : (v : Value) → SameSteps name (truth v) (truth v)
-  same_truth v = same_seen name _ _ (λ s. is_true_as name s v)
+  same_truth v = same_reading name _ _ (λ s. is_true_as name s v)
 
-  pub same_choose : {E A : Type 0} (b : Bool) (p x : Steps (World C) E A) (q y : Steps (World D) E A) → SameSteps name p q → SameSteps name x y → SameSteps name (choose b p x) (choose b q y)
+  pub same_choose : {E A : Type 0} (b : Bool) (p x : Steps (World C) E A) (q y : Steps (World D) E A) → SameSteps name p q → SameSteps name x y → SameSteps name (if b then p else x) (if b then q else y)
   same_choose true p x q y h k = h
   same_choose false p x q y h k = k
 
@@ -220,15 +220,12 @@ module _ {C D : Type 0} (name : Names C D) where
 
   -- ---- inputs, calls, signs
 
-  same_new_items : (items : List Value) → Same name (new_items items) (new_items items)
-  same_new_items items = same_then name _ _ _ _ (same_charge name _) (λ _. same_new_list name items)
-
   pub same_input_value : (i : Input) → Same name (input_value i) (input_value i)
   same_input_value input.None = same_pure name _
   same_input_value (input.Bool b) = same_pure name _
   same_input_value (input.Int z) = same_pure name _
   same_input_value (input.Text points) = same_pure name _
-  same_input_value (input.List items) = same_new_items (map item_value items)
+  same_input_value (input.List items) = same_charged_list name (map item_value items)
 
   pub same_call_function : (c : Callee C) (d : Callee D) → SameCallee name c d → (id : ℕ) (vs : List Value) (n : ByName) → SameSteps name (call_function c id vs n) (call_function d id vs n)
   same_call_function c d h id vs n = record { holds = λ w. called_or (has w.frame.active id) w; keeps = λ w. kept_or (has w.frame.active id) w }

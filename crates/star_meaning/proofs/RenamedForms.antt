@@ -3,6 +3,8 @@ use Rattle.std.proofs.Common.{◌≡◌, ℕ, List, [], ◌∷◌, ◌++◌, map
 use Rattle.std.specs.Prelude.{Option, Some, None}
 use Rattle.std.specs.List.{flat_map}
 use Rattle.chex_base.specs.Inputs as inputs
+use Rattle.star_syntax.specs.Placement.{first_literal, lone_literal}
+use Rattle.star_syntax.specs.declared.expression.Arm.{Arm}
 use Rattle.star_syntax.specs.declared.expression.Expr.{Expr, fold-roll-Expr, ind-Expr, map-Expr, roll-Expr}
 use Rattle.star_syntax.specs.declared.expression.Expr.TheOpen.{Expr-F}
 use Rattle.star_syntax.specs.declared.expression.ChainLevel.{ChainLevel}
@@ -25,7 +27,7 @@ use Rattle.star_value.specs.declared.value.Value.TheVariants as value
 use Rattle.star_meaning.specs.Steps.{Action, ◌>>=◌, pure, fail, given_or}
 use Rattle.star_meaning.specs.Builtins.{ByName}
 use Rattle.star_meaning.specs.World.{Work, operate, operation, without_first}
-use Rattle.star_meaning.specs.Expressions.{Callee, Meant, Setting, call_written, called, called_at, chained, front, headed, input_name, input_value, linked, lone_literal, meant, name_of, named_values, naming, parts, place, read_input, step, suffix_value, suffixed, turned}
+use Rattle.star_meaning.specs.Expressions.{Callee, Meant, Setting, call_written, called, called_at, chained, chosen, front, headed, input_name, input_value, linked, meant, name_of, named_values, naming, parts, place, read_input, step, suffix_value, suffixed, turned}
 use Rattle.star_meaning.specs.Renaming.{Names, Same, SameSteps, SameSetting, SameCallee, SameMeant}
 use Rattle.star_meaning.proofs.Renamed.{same_then, same_given_or, same_charge}
 use Rattle.star_meaning.proofs.RenamedShowing.{same_new_dict, same_new_list, same_new_tuple}
@@ -82,7 +84,7 @@ module _ {C D : Type 0} (name : Names C D) (st : Setting C) (su : Setting D) (sa
   -- ---- suffixes
 
   abbrev pub AlikeArguments : Arguments (Meant C) → Arguments (Meant D) → Type 0
-  AlikeArguments x y = Each (Alike name) x.positional y.positional × Each (AlikeNamed name) x.named y.named
+  AlikeArguments x y = Each (Alike name) x.positional y.positional × Each (AlikeNamed name) x.named y.named × (y.comma ≡ x.comma)
 
   abbrev pub AlikeSuffix : Suffix (Meant C) → Suffix (Meant D) → Type 0
   AlikeSuffix (suffix.Index at) (suffix.Index to) = Alike name at to
@@ -126,36 +128,45 @@ module _ {C D : Type 0} (name : Names C D) (st : Setting C) (su : Setting D) (sa
 
   -- ---- what is indexed or called, and places
 
-  lone_as : (ms : List (Meant C)) (ns : List (Meant D)) → Each (Alike name) ms ns → lone_literal su d ns ≡ lone_literal st c ms
-  lone_as [] [] h = refl
-  lone_as (m ∷ []) (n ∷ []) h = h.0.literal
-  lone_as (m ∷ l ∷ ms) (n ∷ o ∷ ns) h = refl
-  lone_as [] (n ∷ ns) h = absurd h
-  lone_as (m ∷ ms) [] h = absurd h
-  lone_as (m ∷ []) (n ∷ o ∷ ns) h = absurd h.1
-  lone_as (m ∷ l ∷ ms) (n ∷ []) h = absurd h.1
+  lone_as : (ms : List (Meant C)) (ns : List (Meant D)) (xs : List (Named (Meant C))) (ys : List (Named (Meant D))) (a : Bool) → Each (Alike name) ms ns → Each (AlikeNamed name) xs ys
+      → lone_literal (λ n. n.literal) ns ys a ≡ lone_literal (λ m. m.literal) ms xs a
+  lone_as [] [] xs ys a h k = refl
+  lone_as (m ∷ []) (n ∷ []) [] [] false h k = h.0.literal
+  lone_as (m ∷ []) (n ∷ []) [] [] true h k = refl
+  lone_as (m ∷ []) (n ∷ []) (x ∷ xs) (y ∷ ys) a h k = refl
+  lone_as (m ∷ []) (n ∷ []) [] (y ∷ ys) a h k = absurd k
+  lone_as (m ∷ []) (n ∷ []) (x ∷ xs) [] a h k = absurd k
+  lone_as (m ∷ l ∷ ms) (n ∷ o ∷ ns) xs ys a h k = refl
+  lone_as [] (n ∷ ns) xs ys a h k = absurd h
+  lone_as (m ∷ ms) [] xs ys a h k = absurd h
+  lone_as (m ∷ []) (n ∷ o ∷ ns) xs ys a h k = absurd h.1
+  lone_as (m ∷ l ∷ ms) (n ∷ []) xs ys a h k = absurd h.1
+
+  first_as : (xs : List (Suffix (Meant C))) (ys : List (Suffix (Meant D))) → Each AlikeSuffix xs ys → first_literal (λ n. n.literal) ys ≡ first_literal (λ m. m.literal) xs
+  first_as [] [] h = refl
+  first_as (suffix.Call x ∷ xs) (suffix.Call y ∷ ys) h =
+      ap (λ b. lone_literal (λ n. n.literal) y.positional y.named b) h.0.2 ∙ lone_as x.positional y.positional x.named y.named x.comma h.0.0 h.0.1
+  first_as (suffix.Index at ∷ xs) (suffix.Index to ∷ ys) h = refl
+  first_as (suffix.Index at ∷ xs) (suffix.Slice a b e ∷ ys) h = absurd h.0
+  first_as (suffix.Index at ∷ xs) (suffix.Call y ∷ ys) h = absurd h.0
+  first_as (suffix.Index at ∷ xs) (suffix.Method m y ∷ ys) h = absurd h.0
+  first_as (suffix.Slice i j k ∷ xs) (suffix.Index to ∷ ys) h = absurd h.0
+  first_as (suffix.Slice i j k ∷ xs) (suffix.Slice a b e ∷ ys) h = refl
+  first_as (suffix.Slice i j k ∷ xs) (suffix.Call y ∷ ys) h = absurd h.0
+  first_as (suffix.Slice i j k ∷ xs) (suffix.Method m y ∷ ys) h = absurd h.0
+  first_as (suffix.Call x ∷ xs) (suffix.Index to ∷ ys) h = absurd h.0
+  first_as (suffix.Call x ∷ xs) (suffix.Slice a b e ∷ ys) h = absurd h.0
+  first_as (suffix.Call x ∷ xs) (suffix.Method m y ∷ ys) h = absurd h.0
+  first_as (suffix.Method n x ∷ xs) (suffix.Index to ∷ ys) h = absurd h.0
+  first_as (suffix.Method n x ∷ xs) (suffix.Slice a b e ∷ ys) h = absurd h.0
+  first_as (suffix.Method n x ∷ xs) (suffix.Call y ∷ ys) h = absurd h.0
+  first_as (suffix.Method n x ∷ xs) (suffix.Method m y ∷ ys) h = refl
+  first_as [] (y ∷ ys) h = absurd h
+  first_as (x ∷ xs) [] h = absurd h
 
   input_as : (b : Bool) (xs : List (Suffix (Meant C))) (ys : List (Suffix (Meant D))) → Each AlikeSuffix xs ys → input_name su d b ys ≡ input_name st c b xs
   input_as false xs ys h = refl
-  input_as true [] [] h = refl
-  input_as true (suffix.Call x ∷ xs) (suffix.Call y ∷ ys) h = lone_as x.positional y.positional h.0.0
-  input_as true (suffix.Index at ∷ xs) (suffix.Index to ∷ ys) h = refl
-  input_as true (suffix.Slice i j k ∷ xs) (suffix.Slice a b e ∷ ys) h = refl
-  input_as true (suffix.Method n x ∷ xs) (suffix.Method m y ∷ ys) h = refl
-  input_as true [] (y ∷ ys) h = absurd h
-  input_as true (x ∷ xs) [] h = absurd h
-  input_as true (suffix.Index at ∷ xs) (suffix.Slice a b e ∷ ys) h = absurd h.0
-  input_as true (suffix.Index at ∷ xs) (suffix.Call y ∷ ys) h = absurd h.0
-  input_as true (suffix.Index at ∷ xs) (suffix.Method m y ∷ ys) h = absurd h.0
-  input_as true (suffix.Slice i j k ∷ xs) (suffix.Index to ∷ ys) h = absurd h.0
-  input_as true (suffix.Slice i j k ∷ xs) (suffix.Call y ∷ ys) h = absurd h.0
-  input_as true (suffix.Slice i j k ∷ xs) (suffix.Method m y ∷ ys) h = absurd h.0
-  input_as true (suffix.Call x ∷ xs) (suffix.Index to ∷ ys) h = absurd h.0
-  input_as true (suffix.Call x ∷ xs) (suffix.Slice a b e ∷ ys) h = absurd h.0
-  input_as true (suffix.Call x ∷ xs) (suffix.Method m y ∷ ys) h = absurd h.0
-  input_as true (suffix.Method n x ∷ xs) (suffix.Index to ∷ ys) h = absurd h.0
-  input_as true (suffix.Method n x ∷ xs) (suffix.Slice a b e ∷ ys) h = absurd h.0
-  input_as true (suffix.Method n x ∷ xs) (suffix.Call y ∷ ys) h = absurd h.0
+  input_as true xs ys h = first_as xs ys h
 
   rest_alike : (xs : List (Suffix (Meant C))) (ys : List (Suffix (Meant D))) → Each AlikeSuffix xs ys → Each AlikeSuffix (without_first xs) (without_first ys)
   rest_alike [] [] h = tt
@@ -323,15 +334,20 @@ module _ {C D : Type 0} (name : Names C D) (st : Setting C) (su : Setting D) (sa
     literal = refl;
   }
 
-  conditional_form : (a b e : Meant C) (x y z : Meant D) → Alike name a x → Alike name b y → Alike name e z → Forms (Expr-F.Conditional a b e) (Expr-F.Conditional x y z)
-  conditional_form a b e x y z h k l = record {
-    value = same_next name _ _ _ _ k.value (λ v. same_next name _ _ _ _ (same_acting name _ _ (same_charge name 1)) (λ _. same_next name _ _ _ _ (same_truth name v) (λ t. same_choose name t _ _ _ _ h.value l.value)));
-    store = λ v. never;
-    update = λ f g m. never;
-    names = refl;
-    is_input = refl;
-    literal = refl;
-  }
+  pub record AlikeArm (x : Arm (Meant C)) (y : Arm (Meant D)) : Type 0 where
+    pub value_is : Alike name x.value y.value
+    pub condition_is : Alike name x.condition y.condition
+
+  same_chosen : (xs : List (Arm (Meant C))) (ys : List (Arm (Meant D))) (m : Meant C) (n : Meant D) → Each AlikeArm xs ys → Alike name m n → SameSteps name (chosen st c xs m) (chosen su d ys n)
+  same_chosen [] [] m n h k = k.value
+  same_chosen (x ∷ xs) (y ∷ ys) m n h k =
+      same_next name _ _ _ _ h.0.condition_is.value (λ v. same_next name _ _ _ _ (same_acting name _ _ (same_charge name 1)) (λ _. same_next name _ _ _ _ (same_truth name v) (λ t.
+      same_choose name t _ _ _ _ h.0.value_is.value (same_chosen xs ys m n h.1 k))))
+  same_chosen [] (y ∷ ys) m n h k = absurd h
+  same_chosen (x ∷ xs) [] m n h k = absurd h
+
+  conditional_form : (xs : List (Arm (Meant C))) (ys : List (Arm (Meant D))) (m : Meant C) (n : Meant D) → Each AlikeArm xs ys → Alike name m n → Forms (Expr-F.Conditional xs m) (Expr-F.Conditional ys n)
+  conditional_form xs ys m n h k = record { value = same_chosen xs ys m n h k; store = λ v. never; update = λ f g l. never; names = refl; is_input = refl; literal = refl }
 
   -- ---- trees
 
@@ -357,6 +373,10 @@ module _ {C D : Type 0} (name : Names C D) (st : Setting C) (su : Setting D) (sa
   links_of (Expr-F.Chain level first xs) = xs
   links_of _ = []
 
+  arms_of : {X : Type 0} → Expr-F X → List (Arm X)
+  arms_of (Expr-F.Conditional xs last) = xs
+  arms_of _ = []
+
   suffixes_of : {X : Type 0} → Expr-F X → List (Suffix X)
   suffixes_of (Expr-F.Primary head xs) = xs
   suffixes_of _ = []
@@ -374,6 +394,11 @@ module _ {C D : Type 0} (name : Names C D) (st : Setting C) (su : Setting D) (sa
   unfolding links_of
   links_known level e [] = tt
   links_known level e (x ∷ xs) = (record { op_is = refl; operand_is = x.operand.1 }, links_known level e xs)
+
+  arms_known : (e : Known) (xs : List (Arm Known)) → Each AlikeArm (arms_of (lower (Expr-F.Conditional xs e))) (arms_of (upper (Expr-F.Conditional xs e)))
+  unfolding arms_of
+  arms_known e [] = tt
+  arms_known e (x ∷ xs) = (record { value_is = x.value.1; condition_is = x.condition.1 }, arms_known e xs)
 
   pairs_known : (b : Bool) (xs : List (Pair Known)) → Each (AlikePair name) (pairs_in (lower (Expr-F.Dict xs b))) (pairs_in (upper (Expr-F.Dict xs b)))
   unfolding pairs_in
@@ -435,11 +460,11 @@ module _ {C D : Type 0} (name : Names C D) (st : Setting C) (su : Setting D) (sa
   suffixes_known e [] = tt
   suffixes_known e (suffix.Index at ∷ xs) = index_known e at xs (suffixes_known e xs)
   suffixes_known e (suffix.Slice i j k ∷ xs) = slice_known e i j k xs (suffixes_known e xs)
-  suffixes_known e (suffix.Call given ∷ xs) = ((all_known given.positional, call_named e given.positional given.comma given.named xs), suffixes_known e xs)
-  suffixes_known e (suffix.Method m given ∷ xs) = ((refl, (all_known given.positional, method_named e m given.positional given.comma given.named xs)), suffixes_known e xs)
+  suffixes_known e (suffix.Call given ∷ xs) = ((all_known given.positional, call_named e given.positional given.comma given.named xs, refl), suffixes_known e xs)
+  suffixes_known e (suffix.Method m given ∷ xs) = ((refl, (all_known given.positional, method_named e m given.positional given.comma given.named xs, refl)), suffixes_known e xs)
 
   layer_same : (y : Expr-F Known) → Forms (lower y) (upper y)
-  unfolding links_of suffixes_of pairs_in clauses_of
+  unfolding links_of arms_of suffixes_of pairs_in clauses_of
   layer_same (Expr-F.Name n) = name_form n
   layer_same (Expr-F.Int z) = record { value = constant (value.Int z); store = λ v. never; update = λ f g h. never; names = refl; is_input = refl; literal = refl }
   layer_same (Expr-F.Text t) = record { value = constant (value.Text t); store = λ v. never; update = λ f g h. never; names = refl; is_input = refl; literal = refl }
@@ -457,7 +482,7 @@ module _ {C D : Type 0} (name : Names C D) (st : Setting C) (su : Setting D) (sa
   layer_same (Expr-F.Chain level e xs) = chain_form level _ _ _ _ e.1 (links_known level e xs)
   layer_same (Expr-F.Compare a o b) = compare_form _ _ _ _ o a.1 b.1
   layer_same (Expr-F.Not count e) = not_form count _ _ e.1
-  layer_same (Expr-F.Conditional a b e) = conditional_form _ _ _ _ _ _ a.1 b.1 e.1
+  layer_same (Expr-F.Conditional xs e) = conditional_form _ _ _ _ (arms_known e xs) e.1
 
   rolled_same : (x : Expr-F Expr) → Forms (map-Expr Expr (Meant C) (meant st c) x) (map-Expr Expr (Meant D) (meant su d) x) → SameMeant name (meant st c (roll-Expr x)) (meant su d (roll-Expr x))
   unfolding meant

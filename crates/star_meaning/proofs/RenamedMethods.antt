@@ -1,6 +1,6 @@
 -- The methods do the same whatever the names of cells.
 use Rattle.std.proofs.Common.{ℕ, negsuc, List, [], ◌∷◌, ◌++◌, map, length, Bool, true, false, ap}
-use Rattle.std.specs.Prelude.{Option, Some, None, option_map, if◌then◌else◌, codes, bytes_eq}
+use Rattle.std.specs.Prelude.{Option, Some, None, option_map, if◌then◌else◌, codes, bytes_eq, unwrap_or}
 use Rattle.std.specs.List.{insert, remove}
 use Rattle.star_value.specs.declared.failure.Failure.TheVariants as failure
 use Rattle.star_value.specs.declared.key.Key.{Key}
@@ -13,7 +13,7 @@ use Rattle.star_meaning.specs.State.{dict, dict_get, dict_put, dict_without}
 use Rattle.star_meaning.specs.Steps.{Action, ◌>>=◌, given_or, read}
 use Rattle.star_meaning.specs.Values.{is_empty, key_values, named_in, place_of}
 use Rattle.star_meaning.specs.Builtins.{ByName, unnamed}
-use Rattle.star_meaning.specs.Methods.{ObjectMethod, TextMethod, append, as_set, call_method, change_list, clear_dict, clear_list, dict_at, dict_methods, extend_by, find, found_or, get, index_of, insert_in, insert_place, items_of_dict, join, keys_of, list_methods, method_at, not_empty, or_none, or_other, or_zero, pair_rows, pair_values, pieces, place_in, pop_item, pop_key, put_all, put_if_absent, remove_item, replace, set_default, split, split_by, strip_ends, tested_with, text_methods, update, values_of, walk_texts, with_none, with_two}
+use Rattle.star_meaning.specs.Methods.{ObjectMethod, TextMethod, append, as_set, call_method, change_list, clear_dict, clear_list, dict_at, dict_methods, extend_by, find, found_or, get, index_of, insert_in, insert_place, items_of_dict, join, keys_of, list_methods, method_at, not_empty, pair_rows, pair_values, pieces, place_in, pop_item, pop_key, put_all, put_if_absent, remove_item, replace, set_default, split, split_by, strip_ends, tested_with, text_methods, update, values_of, walk_texts, with_none, with_two}
 use Rattle.star_meaning.specs.Renaming.{Names, Same}
 use Rattle.star_meaning.proofs.Renamed.{same_then, same_pure, same_fail, same_given_or, same_charge, same_read, dict_as}
 use Rattle.star_meaning.proofs.RenamedComparing.{same_if_then, same_key_in, same_list, same_dict, same_search_in}
@@ -54,7 +54,7 @@ module _ {C D : Type 0} (name : Names C D) where
   same_pop_item : SameMethod pop_item pop_item
   same_pop_item locked id vs =
       same_with_optional name _ _ (λ i. same_then name _ _ _ _ (same_as_int_or name (negsuc 0) i) (λ z. same_then name _ _ _ _ (same_check_unlocked name locked id) (λ _. same_then name _ _ _ _ (same_list name id) (λ items.
-      same_then name _ _ _ _ (same_item_at name items z) (λ x. same_then name _ _ _ _ (same_list_change name id (λ _. remove items (or_zero (place_of z (length items))))) (λ _. same_pure name x)))))) vs
+      same_then name _ _ _ _ (same_item_at name items z) (λ x. same_then name _ _ _ _ (same_list_change name id (λ _. remove items (unwrap_or (place_of z (length items)) 0))) (λ _. same_pure name x)))))) vs
 
   same_place_in : (id : ℕ) (x : Value) → Same name (place_in id x) (place_in id x)
   same_place_in id x = same_then name _ _ _ _ (same_list name id) (λ items. same_then name _ _ _ _ (same_search_in name x items) (same_given_or name failure.NoElement))
@@ -74,7 +74,7 @@ module _ {C D : Type 0} (name : Names C D) where
   same_get : SameMethod get get
   same_get locked id vs =
       same_with_one_or_two name _ _ (λ k d. same_then name _ _ _ _ (same_key_in name k) (λ key. same_then name _ _ _ _ (same_charge name (weight k)) (λ _.
-      same_read name (λ s. or_other (dict_get (dict s id) key) (or_none d)) (λ s. or_other (dict_get (dict s id) key) (or_none d)) (λ s. ap (λ pairs. or_other (dict_get pairs key) (or_none d)) (dict_as name.to s id))))) vs
+      same_read name (λ s. unwrap_or (dict_get (dict s id) key) (unwrap_or d value.None)) (λ s. unwrap_or (dict_get (dict s id) key) (unwrap_or d value.None)) (λ s. ap (λ pairs. unwrap_or (dict_get pairs key) (unwrap_or d value.None)) (dict_as name.to s id))))) vs
 
   same_found_or : (o d : Option Value) → Same name (found_or o d) (found_or o d)
   same_found_or (Some v) d = same_pure name v
@@ -92,7 +92,7 @@ module _ {C D : Type 0} (name : Names C D) where
   same_set_default : SameMethod set_default set_default
   same_set_default locked id vs =
       same_with_one_or_two name _ _ (λ k d. same_then name _ _ _ _ (same_key_in name k) (λ key. same_then name _ _ _ _ (same_check_unlocked name locked id) (λ _. same_then name _ _ _ _ (same_charge name (weight k)) (λ _.
-      same_then name _ _ _ _ (same_lookup id key) (λ found. same_put_if_absent id key found (or_none d)))))) vs
+      same_then name _ _ _ _ (same_lookup id key) (λ found. same_put_if_absent id key found (unwrap_or d value.None)))))) vs
 
   same_keys_of : SameMethod keys_of keys_of
   same_keys_of locked id vs = same_with_none _ _ (same_then name _ _ _ _ (same_read name (λ s. key_values (dict s id)) (λ s. key_values (dict s id)) (λ s. ap key_values (dict_as name.to s id))) (same_charged_list name)) vs

@@ -2,7 +2,7 @@
 use Rattle.std.proofs.Common.{◌≡◌, ℕ, ℤ, pos, List, [], ◌∷◌, ◌++◌, length, ap, ◌∙◌}
 use Rattle.std.specs.Int.{int_bit_and, int_bit_or, int_bit_xor, w128}
 use Rattle.std.specs.List.{repeat}
-use Rattle.std.specs.Prelude.{◌-ℤ◌, Option, slice_set, ◌==◌, not}
+use Rattle.std.specs.Prelude.{◌-ℤ◌, Option, slice_set, ◌==◌, not, unwrap_or}
 use Rattle.star_syntax.specs.declared.operator.BinaryOp.{BinaryOp}
 use Rattle.star_syntax.specs.declared.operator.BinaryOp.TheVariants as op
 use Rattle.star_syntax.specs.declared.operator.UnaryOp.{UnaryOp}
@@ -17,7 +17,7 @@ use Rattle.star_meaning.specs.State.{list, dict, dict_get, dict_put, with_list, 
 use Rattle.star_meaning.specs.Steps.{Action, change}
 use Rattle.star_meaning.specs.Values.{has, integer, times, floor_of, rest_of, is_zero, place_of}
 use Rattle.star_meaning.specs.Showing.{Naming}
-use Rattle.star_meaning.specs.Operators.{bound, or_int, add_at, added_in_place, augmented, binary, Bounds, charged_list, check_sliced, check_unlocked, decimals_fit, divided, extend, filled, formatted_parts, index, index_at, is_sliced, item_at, joined_lists, modulo_at, multiply_at, on_ints, put_key, repeated_list, slice, slice_at, stepped, store, store_at, store_item, store_key, taken, unary, unpacked, unpacked_at, value_at_key, values_for, values_taken}
+use Rattle.star_meaning.specs.Operators.{bound, add_at, added_in_place, augmented, binary, Bounds, charged_list, check_sliced, check_unlocked, decimals_fit, divided, extend, filled, formatted_parts, index, index_at, is_sliced, item_at, joined_lists, modulo_at, multiply_at, on_ints, put_key, repeated_list, slice, slice_at, stepped, store, store_at, store_item, store_key, taken, unary, unpacked, unpacked_at, value_at_key, values_for, values_taken}
 use Rattle.star_meaning.specs.Renaming.{Names, state_as, Same}
 use Rattle.star_meaning.proofs.Renamed.{same_then, same_pure, same_fail, same_given_or, same_charge, same_read, same_change, list_as, dict_as, with_list_as, with_dict_as}
 use Rattle.star_meaning.proofs.GrownLemmas.{grown_dict, grown_list}
@@ -106,7 +106,7 @@ module _ {C D : Type 0} (name : Names C D) where
   same_slice x bounds =
       same_then name _ _ _ _ (same_check_sliced (out-Value x)) (λ _. same_then name _ _ _ _ (same_given_or name failure.WrongType (bound bounds.start)) (λ i.
       same_then name _ _ _ _ (same_given_or name failure.WrongType (bound bounds.stop)) (λ j. same_then name _ _ _ _ (same_given_or name failure.WrongType (bound bounds.step)) (λ k.
-      same_stepped (out-Value x) i j (or_int k (pos 1))))))
+      same_stepped (out-Value x) i j (unwrap_or k (pos 1))))))
 
   -- ---- changes
 

@@ -8,7 +8,7 @@ use Rattle.star_value.specs.declared.value.Value.{Value, out-Value}
 use Rattle.star_value.specs.declared.value.Value.TheOpen.{Value-F}
 use Rattle.star_value.specs.declared.value.Value.TheVariants as value
 use Rattle.star_value.specs.Keys as keys
-use Rattle.star_meaning.specs.State.{Object, AList, ADict, AFunction, State, object, function, parts_of, next_id, with_new}
+use Rattle.star_meaning.specs.State.{Object, AList, ADict, AFunction, State, object, function, function_held, next_id, with_new}
 use Rattle.star_meaning.specs.Steps.{Outcome, Went, Store, Action, ◌>>=◌, read}
 use Rattle.star_meaning.specs.Values.{check_depth, items_at, items_in, items_of, key_values, truth_at, is_true, is_empty, new_dict, new_function, new_list, new_tuple, text_in}
 use Rattle.star_meaning.specs.Showing.{Naming, Writing, made, ◌<+>◌, made_after, made_between, between, list_text, tuple_text, pair_text, dict_text, opened, function_name, function_text, quoted_at, quoted_in, quoted, shown_at, shown}
@@ -119,7 +119,7 @@ module _ {C D : Type 0} (name : Names C D) where
   same_opened (Some f) None p q h k = absurd h
 
   module _ (nc : Naming C) (nd : Naming D) (hn : (c : C) (n : ℕ) → nd (name.to c) n ≡ nc c n) where
-    function_parts : (o : Option (Object C)) → function_name nd (parts_of (option_map (renamed name.to) o)) ≡ function_name nc (parts_of o)
+    function_parts : (o : Option (Object C)) → function_name nd (function_held (option_map (renamed name.to) o)) ≡ function_name nc (function_held o)
     function_parts None = refl
     function_parts (Some (AList items)) = refl
     function_parts (Some (ADict pairs)) = refl
@@ -127,7 +127,7 @@ module _ {C D : Type 0} (name : Names C D) where
 
     function_as : (s : State C) (id : ℕ) → function_name nd (function (state_as name.to s) id) ≡ function_name nc (function s id)
     unfolding function object
-    function_as s id = ap (λ o. function_name nd (parts_of o)) (get_same name.to s.objects id) ∙ function_parts (slice_get s.objects id)
+    function_as s id = ap (λ o. function_name nd (function_held o)) (get_same name.to s.objects id) ∙ function_parts (slice_get s.objects id)
 
     -- what a function's object is read for alone is its name
     same_function : (id : ℕ) → Same name (read (λ s. function s id) >>= (λ parts. made (function_text (function_name nc parts)))) (read (λ s. function s id) >>= (λ parts. made (function_text (function_name nd parts))))

@@ -1,6 +1,6 @@
 -- Statements and calls do the same whatever the names of cells.
 use Rattle.std.proofs.Common.{◌≡◌, ℕ, zero, suc, List, [], ◌∷◌, map, Bool, true, false, refl, sym, ap, subst, ◌∙◌}
-use Rattle.std.specs.Prelude.{Option, Some, None, option_map, slice_get, ◌&&◌, sum}
+use Rattle.std.specs.Prelude.{Option, Some, None, option_map, slice_get, ◌&&◌, sum, if◌then◌else◌}
 use Rattle.star_syntax.specs.declared.expression.Expr.{Expr}
 use Rattle.star_syntax.specs.declared.expression.Named.{Named}
 use Rattle.star_syntax.specs.declared.operator.BinaryOp.{BinaryOp}
@@ -20,14 +20,14 @@ use Rattle.star_value.specs.declared.value.Value.TheOpen.{Value-F}
 use Rattle.star_value.specs.declared.value.Value.TheVariants as value
 use Rattle.star_meaning.specs.declared.flow.Flow.{Flow}
 use Rattle.star_meaning.specs.declared.flow.Flow.TheVariants as flow
-use Rattle.star_meaning.specs.State.{Object, AList, ADict, AFunction, function, object, parts_of}
+use Rattle.star_meaning.specs.State.{Object, AList, ADict, AFunction, function, object, function_held}
 use Rattle.star_meaning.specs.Steps.{Outcome, Went, Failed, ◌>>=◌}
 use Rattle.star_meaning.specs.Values.{is_empty, new_function}
 use Rattle.star_meaning.specs.Showing.{made, quoted, ◌<+>◌}
 use Rattle.star_meaning.specs.Builtins.{ByName}
 use Rattle.star_meaning.specs.World.{World, Work, Fault, Course, acting, write, bind, lock_of}
-use Rattle.star_meaning.specs.Expressions.{Setting, Callee, choose, meant, naming, tests_value, values}
-use Rattle.star_meaning.specs.Statements.{Doing, Filled, after_turn, all_meant, block_of, body_of, branches_of, call_to, condition_of, default_weight, defined, echo, echo_at, echo_if, else_of, ended, filled, for_turns, go_on, in_order, iterated, kind_of, layer_of, line_of, local_block, operator, parameters_of, repeated, result_of, returned, run_body, run_defined, run_filled, run_function, small_of, statement_of, then_on}
+use Rattle.star_meaning.specs.Expressions.{Setting, Callee, meant, naming, tests_value, values}
+use Rattle.star_meaning.specs.Statements.{Doing, Filled, after_turn, all_meant, block_of, body_of, branches_of, call_to, condition_of, default_weight, defined, echo, echo_at, echo_if, else_of, ended, filled, for_turns, go_on, in_sequence, iterated, kind_of, layer_of, line_of, local_block, operator, parameters_of, repeated, result_of, returned, run_body, run_defined, run_filled, run_function, small_of, statement_of, then_on}
 use Rattle.star_meaning.specs.Validity.{renamed}
 use Rattle.star_meaning.specs.Renaming.{Names, world_as, outcome_as, reached, SameSteps, SameSetting, SameCallee, SameMeant}
 use Rattle.star_meaning.specs.Growing.{Grown}
@@ -54,10 +54,10 @@ module _ {C D : Type 0} (name : Names C D) where
   same_go_on p q h flow.Continue = same_going name flow.Continue
   same_go_on p q h (flow.Return v) = same_going name (flow.Return v)
 
-  pub same_in_order : {S : Type 0} (f : Bool → S → Course C Flow) (g : Bool → S → Course D Flow) → ((b : Bool) (s : S) → SameSteps name (f b s) (g b s)) → (last : Bool) (xs : List S)
-      → SameSteps name (in_order f last xs) (in_order g last xs)
-  same_in_order f g h last [] = same_going name flow.On
-  same_in_order f g h last (x ∷ xs) = same_next name _ _ _ _ (h (last && is_empty xs) x) (same_go_on _ _ (same_in_order f g h last xs))
+  pub same_in_sequence : {S : Type 0} (f : Bool → S → Course C Flow) (g : Bool → S → Course D Flow) → ((b : Bool) (s : S) → SameSteps name (f b s) (g b s)) → (last : Bool) (xs : List S)
+      → SameSteps name (in_sequence f last xs) (in_sequence g last xs)
+  same_in_sequence f g h last [] = same_going name flow.On
+  same_in_sequence f g h last (x ∷ xs) = same_next name _ _ _ _ (h (last && is_empty xs) x) (same_go_on _ _ (same_in_sequence f g h last xs))
 
   same_after_turn : (p : Course C Flow) (q : Course D Flow) → SameSteps name p q → (f : Flow) → SameSteps name (after_turn p f) (after_turn q f)
   same_after_turn p q h flow.On = h
@@ -74,7 +74,7 @@ module _ {C D : Type 0} (name : Names C D) where
   SameDoing p q = (last : Bool) (number : Option ℕ) → SameSteps name (p last number) (q last number)
 
   -- statements in a block
-  same_block : (ps : List (Doing C)) (qs : List (Doing D)) → Each SameDoing ps qs → SameSteps name (in_order (λ last s. s false None) false ps) (in_order (λ last s. s false None) false qs)
+  same_block : (ps : List (Doing C)) (qs : List (Doing D)) → Each SameDoing ps qs → SameSteps name (in_sequence (λ last s. s false None) false ps) (in_sequence (λ last s. s false None) false qs)
   same_block [] [] h = same_going name flow.On
   same_block (p ∷ ps) (q ∷ qs) h = same_next name _ _ _ _ (h.0 false None) (same_go_on _ _ (same_block ps qs h.1))
   same_block [] (q ∷ qs) h = absurd h
@@ -152,7 +152,7 @@ module _ {C D : Type 0} (name : Names C D) where
     same_small_of last s = same_located name s.line _ _ (same_next name _ _ _ _ (same_acting name _ _ (same_charge name 1)) (λ _. same_kind_of last s.kind))
 
     same_line_of : (last : Bool) (line : Line) → SameSteps name (line_of st c last line) (line_of su d last line)
-    same_line_of last line = same_in_order _ _ same_small_of last line.smalls
+    same_line_of last line = same_in_sequence _ _ same_small_of last line.smalls
 
     -- ---- statements with blocks
 
@@ -228,7 +228,7 @@ module _ {C D : Type 0} (name : Names C D) where
     same_else_of at first more (Some (blocks.Indented ss)) = same_block_of (blocks.Indented ss)
 
     same_branch : (at : ℕ) (e : Expr) (p x : Course C Flow) (q y : Course D Flow) → SameSteps name p q → SameSteps name x y
-        → SameSteps name (condition_of st c at e >>= (λ t. choose t p x)) (condition_of su d at e >>= (λ t. choose t q y))
+        → SameSteps name (condition_of st c at e >>= (λ t. if t then p else x)) (condition_of su d at e >>= (λ t. if t then q else y))
     same_branch at e p x q y h k = same_next name _ _ _ _ (same_condition at e) (λ t. same_choose name t p x q y h k)
 
     same_branches : (at : ℕ) (first : Branch Shown) (more : List (Branch Shown)) (p : Option (Block (Doing C))) (q : Option (Block (Doing D))) → SameSteps name (else_of st c p) (else_of su d q)
@@ -263,7 +263,7 @@ module _ {C D : Type 0} (name : Names C D) where
 
     same_body : (b : Block Statement) → SameSteps name (body_of st c b) (body_of su d b)
     same_body (blocks.Inline line) = same_line_of false line
-    same_body (blocks.Indented ss) = same_in_order _ _ (λ last s. same_statement s false None) false ss
+    same_body (blocks.Indented ss) = same_in_sequence _ _ (λ last s. same_statement s false None) false ss
 
     -- ---- calls of functions
 
@@ -281,7 +281,7 @@ module _ {C D : Type 0} (name : Names C D) where
     same_run_defined id defaults (Some def) vs n = same_run_filled def id (filled (parameters_of def defaults) vs n)
 
     same_run_function : (id : ℕ) (o : Option (Object C)) (vs : List Value) (n : ByName)
-        → SameSteps name (run_function st c id (parts_of o) vs n) (run_function su d id (parts_of (option_map (renamed name.to) o)) vs n)
+        → SameSteps name (run_function st c id (function_held o) vs n) (run_function su d id (function_held (option_map (renamed name.to) o)) vs n)
     same_run_function id None vs n = same_failing name failure.WrongType
     same_run_function id (Some (AList items)) vs n = same_failing name failure.WrongType
     same_run_function id (Some (ADict pairs)) vs n = same_failing name failure.WrongType
@@ -294,7 +294,7 @@ module _ {C D : Type 0} (name : Names C D) where
   unfolding call_to function object
   same_call_to st su h zero id vs by = same_failing name failure.TooManyCalls
   same_call_to st su h (suc n) id vs by = record {
-    holds = λ w. ap (λ o. run_function su (call_to su n) id (parts_of o) vs by (world_as name.to w)) (get_same name.to w.store.state.objects id)
+    holds = λ w. ap (λ o. run_function su (call_to su n) id (function_held o) vs by (world_as name.to w)) (get_same name.to w.store.state.objects id)
         ∙ (same_run_function st su h (call_to st n) (call_to su n) (same_call_to st su h n) id (slice_get w.store.state.objects id) vs by).holds w;
     keeps = λ w. (same_run_function st su h (call_to st n) (call_to su n) (same_call_to st su h n) id (slice_get w.store.state.objects id) vs by).keeps w;
   }

@@ -7,7 +7,7 @@ use Rattle.star_value.specs.declared.value.Value.{Value}
 use Rattle.star_value.specs.Weight.{weight}
 use Rattle.star_meaning.specs.State.{Object, State, global, set_global}
 use Rattle.star_meaning.specs.Steps.{Outcome, Went, Failed, Steps, Store, Action, and_then, ◌>>=◌, pure, fail, given_or}
-use Rattle.star_meaning.specs.World.{Block, Frame, World, Work, acting, bind, binding, in_block, in_function, left_block, located, located_at, locking, look_up, operate, operation, put_back, seen, slot_of, turns, unlocked, value_in, with_frame, with_store, write}
+use Rattle.star_meaning.specs.World.{Block, Frame, World, Work, acting, bind, binding, in_block, in_function, left_block, located, located_at, locking, look_up, operate, operation, put_back, reading, slot_of, turns, unlocked, value_in, with_frame, with_store, write}
 use Rattle.star_meaning.specs.Renaming.{Names, state_as, store_as, world_as, outcome_as, reached, Same, SameSteps}
 use Rattle.star_meaning.specs.Growing.{Grown}
 use Rattle.star_meaning.proofs.GrownLemmas.{grown_same, grown_then}
@@ -92,8 +92,8 @@ module _ {C D : Type 0} (name : Names C D) where
   unfolding acting
   same_acting p q h = record { holds = λ w. ap (with_store (world_as name.to w)) (h.holds w.store) ∙ stored_at w (p w.store); keeps = λ w. grown_stored name.here w (p w.store) (h.keeps w.store) }
 
-  pub same_seen : {A : Type 0} (of : State C → A) (other : State D → A) → ((s : State C) → other (state_as name.to s) ≡ of s) → SameSteps name (seen of) (seen other)
-  same_seen of other k = record { holds = λ w. ap (λ a. Went a (world_as name.to w)) (k w.store.state); keeps = idle }
+  pub same_reading : {A : Type 0} (of : State C → A) (other : State D → A) → ((s : State C) → other (state_as name.to s) ≡ of s) → SameSteps name (reading of) (reading other)
+  same_reading of other k = record { holds = λ w. ap (λ a. Went a (world_as name.to w)) (k w.store.state); keeps = idle }
 
   pub same_operation : (p : Work C Value) (q : Work D Value) → SameSteps name p q → SameSteps name (operation p) (operation q)
   unfolding operation

@@ -316,9 +316,9 @@ placed x [] = x ∷ []
 placed x (y ∷ ys) = if is_before y x then y ∷ placed x ys else x ∷ y ∷ ys
 
 -- the items in order, equal ones as they stood
-unfoldable pub in_order : List Value → List Value
-in_order [] = []
-in_order (x ∷ xs) = placed x (in_order xs)
+unfoldable pub sorted_items : List Value → List Value
+sorted_items [] = []
+sorted_items (x ∷ xs) = placed x (sorted_items xs)
 
 abbrev pub backwards : {C : Type 0} → Option Value → Action C Bool
 backwards None = pure false
@@ -330,7 +330,7 @@ sorted named v = do
   items ← items_of v
   back ← backwards given
   walk_first items
-  new_list (if back then reverse (in_order items) else in_order items)
+  new_list (if back then reverse (sorted_items items) else sorted_items items)
 
 -- the first of the best items
 abbrev pub best : (Value → Value → Bool) → Value → List Value → Value
@@ -355,29 +355,6 @@ extreme better (x ∷ y ∷ more) = best_argument better x (y ∷ more)
 
 -- ---- the table
 
--- what a built-in function other than `print` gives
-abbrev pub result_of : {C : Type 0} → Naming C → Builtin → List Value → ByName → Action C Value
-result_of naming builtin.Abs vs named = unnamed named (with_one absolute vs)
-result_of naming builtin.All vs named = unnamed named (with_one (tested list_all) vs)
-result_of naming builtin.Any vs named = unnamed named (with_one (tested list_any) vs)
-result_of naming builtin.Bool vs named = unnamed named (with_one truth vs)
-result_of naming builtin.Dict vs named = unnamed named (with_optional dict_of vs)
-result_of naming builtin.Enumerate vs named = unnamed named (with_one_or_two enumerate vs)
-result_of naming builtin.Int vs named = unnamed named (with_one (λ v. int_of (out-Value v)) vs)
-result_of naming builtin.Len vs named = unnamed named (with_one len vs)
-result_of naming builtin.List vs named = unnamed named (with_optional list_of vs)
-result_of naming builtin.Max vs named = unnamed named (extreme (λ y x. is_before x y) vs)
-result_of naming builtin.Min vs named = unnamed named (extreme is_before vs)
-result_of naming builtin.Print vs named = printed naming vs named >> pure value.None
-result_of naming builtin.Range vs named = unnamed named (range vs)
-result_of naming builtin.Repr vs named = unnamed named (with_one (λ v. as_value (quoted naming v)) vs)
-result_of naming builtin.Reversed vs named = unnamed named (with_one reversed vs)
-result_of naming builtin.Sorted vs named = with_one (sorted named) vs
-result_of naming builtin.Str vs named = unnamed named (with_one (λ v. as_value (shown naming v)) vs)
-result_of naming builtin.Tuple vs named = unnamed named (with_optional tuple_of vs)
-result_of naming builtin.Type vs named = unnamed named (with_one (λ v. pure (value.Text (type_name v))) vs)
-result_of naming builtin.Zip vs named = unnamed named (zip vs)
-
 -- the result, and what is written
 abbrev pub silent : {C : Type 0} → Action C Value → Action C (Value × List ℕ)
 silent p = p >>= (λ v. pure (v, []))
@@ -385,10 +362,25 @@ silent p = p >>= (λ v. pure (v, []))
 abbrev pub writing : {C : Type 0} → Action C (List ℕ) → Action C (Value × List ℕ)
 writing p = p >>= (λ text. pure (value.None, text))
 
-abbrev pub is_print : Builtin → Bool
-is_print builtin.Print = true
-is_print _ = false
-
 -- a call of a built-in function: its result, and what it writes
 unfoldable pub call_builtin : {C : Type 0} → Naming C → Builtin → List Value → ByName → Action C (Value × List ℕ)
-call_builtin naming which vs named = if is_print which then writing (printed naming vs named) else silent (result_of naming which vs named)
+call_builtin naming builtin.Abs vs named = silent (unnamed named (with_one absolute vs))
+call_builtin naming builtin.All vs named = silent (unnamed named (with_one (tested list_all) vs))
+call_builtin naming builtin.Any vs named = silent (unnamed named (with_one (tested list_any) vs))
+call_builtin naming builtin.Bool vs named = silent (unnamed named (with_one truth vs))
+call_builtin naming builtin.Dict vs named = silent (unnamed named (with_optional dict_of vs))
+call_builtin naming builtin.Enumerate vs named = silent (unnamed named (with_one_or_two enumerate vs))
+call_builtin naming builtin.Int vs named = silent (unnamed named (with_one (λ v. int_of (out-Value v)) vs))
+call_builtin naming builtin.Len vs named = silent (unnamed named (with_one len vs))
+call_builtin naming builtin.List vs named = silent (unnamed named (with_optional list_of vs))
+call_builtin naming builtin.Max vs named = silent (unnamed named (extreme (λ y x. is_before x y) vs))
+call_builtin naming builtin.Min vs named = silent (unnamed named (extreme is_before vs))
+call_builtin naming builtin.Print vs named = writing (printed naming vs named)
+call_builtin naming builtin.Range vs named = silent (unnamed named (range vs))
+call_builtin naming builtin.Repr vs named = silent (unnamed named (with_one (λ v. as_value (quoted naming v)) vs))
+call_builtin naming builtin.Reversed vs named = silent (unnamed named (with_one reversed vs))
+call_builtin naming builtin.Sorted vs named = silent (with_one (sorted named) vs)
+call_builtin naming builtin.Str vs named = silent (unnamed named (with_one (λ v. as_value (shown naming v)) vs))
+call_builtin naming builtin.Tuple vs named = silent (unnamed named (with_optional tuple_of vs))
+call_builtin naming builtin.Type vs named = silent (unnamed named (with_one (λ v. pure (value.Text (type_name v))) vs))
+call_builtin naming builtin.Zip vs named = silent (unnamed named (zip vs))

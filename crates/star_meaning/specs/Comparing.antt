@@ -156,8 +156,8 @@ ordered_as before same after Same = pure same
 ordered_as before same after After = pure after
 ordered_as before same after Apart = fail failure.WrongType
 
-unfoldable pub in_order : {C : Type 0} → (Verdict → Action C Bool) → Value → Value → Action C Bool
-in_order answer a b =
+unfoldable pub by_order : {C : Type 0} → (Verdict → Action C Bool) → Value → Value → Action C Bool
+by_order answer a b =
     if are_ordered (out-Value a) (out-Value b) then (compared false 64 a b >>= answer) else fail failure.WrongType
 
 -- ---- membership
@@ -214,9 +214,9 @@ negated p = p >>= (λ b. pure (not b))
 unfoldable pub compare : {C : Type 0} → CompareOp → Value → Value → Action C Bool
 compare op.Equal a b = equal a b
 compare op.NotEqual a b = negated (equal a b)
-compare op.Less a b = in_order (ordered_as true false false) a b
-compare op.Greater a b = in_order (ordered_as false false true) a b
-compare op.AtMost a b = in_order (ordered_as true true false) a b
-compare op.AtLeast a b = in_order (ordered_as false true true) a b
+compare op.Less a b = by_order (ordered_as true false false) a b
+compare op.Greater a b = by_order (ordered_as false false true) a b
+compare op.AtMost a b = by_order (ordered_as true true false) a b
+compare op.AtLeast a b = by_order (ordered_as false true true) a b
 compare op.Within a b = within a b
 compare op.NotWithin a b = negated (within a b)

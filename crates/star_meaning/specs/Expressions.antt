@@ -6,6 +6,7 @@ use Rattle.chex_base.specs.declared.input.Input.TheVariants as input
 use Rattle.chex_base.specs.declared.input.InputItem.{InputItem}
 use Rattle.chex_base.specs.declared.input.InputItem.TheVariants as item
 use Rattle.chex_base.specs.Inputs as inputs
+use Rattle.star_syntax.specs.declared.expression.Arm.{Arm}
 use Rattle.star_syntax.specs.declared.expression.Expr.{Expr, fold-Expr, map-Expr}
 use Rattle.star_syntax.specs.declared.expression.Expr.TheOpen.{Expr-F}
 use Rattle.star_syntax.specs.declared.expression.Link.{Link}
@@ -21,7 +22,7 @@ use Rattle.star_syntax.specs.declared.operator.CompareOp.{CompareOp}
 use Rattle.star_syntax.specs.declared.operator.UnaryOp.{UnaryOp}
 use Rattle.star_syntax.specs.declared.statement.Definition.{Definition}
 use Rattle.star_syntax.specs.declared.statement.Statement.{Statement}
-use Rattle.star_syntax.specs.Placement.{is_input}
+use Rattle.star_syntax.specs.Placement.{Seen, inner, first_literal, layer_seen}
 use Rattle.star_value.specs.declared.failure.Failure.TheVariants as failure
 use Rattle.star_value.specs.declared.key.Key.{Key}
 use Rattle.star_value.specs.declared.value.Value.{Value, out-Value}
@@ -29,14 +30,14 @@ use Rattle.star_value.specs.declared.value.Value.TheOpen.{Value-F}
 use Rattle.star_value.specs.declared.value.Value.TheVariants as value
 use Rattle.star_meaning.specs.State.{dict_get, dict_put}
 use Rattle.star_meaning.specs.Steps.{Action, pure, fail, given_or, charge, ◌>>=◌, ◌>>◌}
-use Rattle.star_meaning.specs.Values.{has, is_true, items_of, charge_items, charge_weight, new_tuple, new_list, new_dict}
+use Rattle.star_meaning.specs.Values.{has, is_true, items_of, charge_weight, new_tuple, new_list, new_dict}
 use Rattle.star_meaning.specs.Comparing.{compare, key_in}
 use Rattle.star_meaning.specs.Showing.{Naming}
 use Rattle.star_meaning.specs.Operators as operators
-use Rattle.star_meaning.specs.Operators.{Bounds, binary, unary, index, slice, unpacked}
+use Rattle.star_meaning.specs.Operators.{Bounds, charged_list, binary, unary, index, slice, unpacked}
 use Rattle.star_meaning.specs.Builtins.{ByName, call_builtin}
 use Rattle.star_meaning.specs.Methods.{call_method}
-use Rattle.star_meaning.specs.World.{Work, acting, seen, operation, operate, write, look_up, bind, unbound, distinct, in_block, locking, lock_of, turns, without_first}
+use Rattle.star_meaning.specs.World.{Work, acting, reading, operation, operate, write, look_up, bind, unbound, distinct, in_block, locking, lock_of, turns, without_first}
 
 -- What does not change while a cell runs: the functions of the cells, the cell, and the inputs.
 pub record Setting (C : Type 0) : Type 0 where
@@ -110,12 +111,7 @@ step_value (Some m) = optional_value m
 
 -- whether a value counts as true
 abbrev pub truth : {C : Type 0} → Value → Work C Bool
-truth v = seen (λ s. is_true s v)
-
--- the first steps where the test holds, or the second ones
-abbrev pub choose : {A : Type 0} → Bool → A → A → A
-choose true p q = p
-choose false p q = q
+truth v = reading (λ s. is_true s v)
 
 -- ---- displays
 
@@ -174,7 +170,7 @@ clauses_from [] inner a = inner a
 clauses_from (clause.If condition ∷ more) inner a = do
   v ← condition.value
   t ← truth v
-  choose t (clauses_from more inner a) (pure a)
+  (if t then clauses_from more inner a else pure a)
 clauses_from (clause.For targets over ∷ more) inner a = do
   v ← over.value
   loop_over (λ x b. next_item targets x >> clauses_from more inner b) v a
@@ -208,16 +204,13 @@ item_value (item.Bool b) = value.Bool b
 item_value (item.Int z) = value.Int z
 item_value (item.Text points) = value.Text points
 
-abbrev pub new_items : {C : Type 0} → List Value → Action C Value
-new_items items = charge_items items >> new_list items
-
 -- a value; an array is a new list and charges its items' weights
 abbrev pub input_value : {C : Type 0} → Input → Action C Value
 input_value input.None = pure value.None
 input_value (input.Bool b) = pure (value.Bool b)
 input_value (input.Int z) = pure (value.Int z)
 input_value (input.Text points) = pure (value.Text points)
-input_value (input.List items) = new_items (map item_value items)
+input_value (input.List items) = charged_list (map item_value items)
 
 -- `input(TEXT)` is one operation
 unfoldable pub read_input : {C : Type 0} → Setting C → List ℕ → Work C Value
@@ -266,8 +259,8 @@ module _ {C : Type 0} (setting : Setting C) (call : Callee C) where
 
   -- `or` and `and` give an operand and stop early; an operand that is reached charges 1 first
   abbrev pub linked : ChainOp → Value → Work C Value → (Value → Work C Value) → Work C Value
-  linked chain.Or x operand rest = truth x >>= (λ t. choose t (pure x) (acting (charge 1) >> operand >>= rest))
-  linked chain.And x operand rest = truth x >>= (λ t. choose t (acting (charge 1) >> operand >>= rest) (pure x))
+  linked chain.Or x operand rest = truth x >>= (λ t. if t then pure x else (acting (charge 1) >> operand >>= rest))
+  linked chain.And x operand rest = truth x >>= (λ t. if t then (acting (charge 1) >> operand >>= rest) else pure x)
   linked (chain.Binary op) x operand rest = operand >>= (λ y. operate (binary (naming setting) op x y)) >>= rest
 
   abbrev pub chained : List (Link (Meant C)) → Value → Work C Value
@@ -296,14 +289,10 @@ module _ {C : Type 0} (setting : Setting C) (call : Callee C) where
   suffixed [] x = pure x
   suffixed (s ∷ more) x = suffix_value s x >>= suffixed more
 
-  -- the literal of `(TEXT)`
-  abbrev pub lone_literal : List (Meant C) → Option (List ℕ)
-  lone_literal (m ∷ []) = m.literal
-  lone_literal _ = None
-
+  -- the name of `input(TEXT)`, as the rules of placement say what that is
   abbrev pub input_name : Bool → List (Suffix (Meant C)) → Option (List ℕ)
-  input_name true (suffix.Call given ∷ more) = lone_literal given.positional
-  input_name _ _ = None
+  input_name true suffixes = first_literal (λ m. m.literal) suffixes
+  input_name false suffixes = None
 
   -- what is indexed or called, and the suffixes that follow it: `input(TEXT)` is one thing
   abbrev pub headed : Meant C → List (Suffix (Meant C)) → Option (List ℕ) → Work C Value × List (Suffix (Meant C))
@@ -321,6 +310,17 @@ module _ {C : Type 0} (setting : Setting C) (call : Callee C) where
 
   abbrev pub place : Meant C → List (Suffix (Meant C)) → Work C (Value × Value)
   place head suffixes = (front head suffixes).0 >>= parts (front head suffixes).1
+
+  -- ---- conditionals
+
+  -- the value of the first arm whose condition holds, or else the last value; each condition that is reached charges 1
+  abbrev pub chosen : List (Arm (Meant C)) → Meant C → Work C Value
+  chosen [] last = last.value
+  chosen (arm ∷ arms) last = do
+    v ← arm.condition.value
+    acting (charge 1)
+    t ← truth v
+    (if t then arm.value.value else chosen arms last)
 
   -- ---- the forms
 
@@ -349,11 +349,7 @@ module _ {C : Type 0} (setting : Setting C) (call : Callee C) where
     acting (charge count)
     t ← truth v
     pure (value.Bool (turned count t))
-  value_step (Expr-F.Conditional a condition b) = do
-    v ← condition.value
-    acting (charge 1)
-    t ← truth v
-    choose t a.value b.value
+  value_step (Expr-F.Conditional arms last) = chosen arms last
 
   -- a name, a place, or targets in brackets; other trees are no targets
   abbrev pub store_step : Expr-F (Meant C) → Value → Work C (Unit {0})
@@ -374,13 +370,9 @@ module _ {C : Type 0} (setting : Setting C) (call : Callee C) where
     store_at at.0 at.1 new
   update_step _ f = fail failure.WrongType
 
-  abbrev pub names_input : Expr-F (Meant C) → Bool
-  names_input (Expr-F.Name name) = is_input name
-  names_input _ = false
-
-  abbrev pub literal_of : Expr-F (Meant C) → Option (List ℕ)
-  literal_of (Expr-F.Text points) = Some points
-  literal_of _ = None
+  -- what the rules of placement see of a node by itself
+  abbrev pub sight : Expr-F (Meant C) → Seen
+  sight x = layer_seen (map-Expr (Meant C) Seen (λ m. inner []) x)
 
   abbrev pub step : Expr-F (Meant C) → Meant C
   step x = record {
@@ -388,8 +380,8 @@ module _ {C : Type 0} (setting : Setting C) (call : Callee C) where
     store = store_step x;
     update = update_step x;
     names = layer_names (map-Expr (Meant C) (List (List ℕ)) (λ m. m.names) x);
-    is_input = names_input x;
-    literal = literal_of x;
+    is_input = (sight x).names_input;
+    literal = (sight x).literal;
   }
 
   unfoldable pub meant : Expr → Meant C

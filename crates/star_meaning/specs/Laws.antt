@@ -1,5 +1,5 @@
 -- Laws of running.
-use Rattle.std.specs.Prelude.{◌≡◌, ℕ, List, [], ◌∷◌, ◌++◌}
+use Rattle.std.specs.Prelude.{◌≡◌, ◌<◌, ◌+◌, ◌-◌, ℕ, suc, List, [], ◌∷◌, ◌++◌, length}
 use Rattle.chex_base.specs.declared.input.Input.{Input}
 use Rattle.star_syntax.specs.declared.cell.Program.{Program}
 use Rattle.star_syntax.specs.CellParts.{CellParts}
@@ -7,9 +7,10 @@ use Rattle.star_value.specs.declared.failure.Failure.TheVariants.{TooManyCalls}
 use Rattle.star_value.specs.declared.value.Value.{Value}
 use Rattle.star_meaning.specs.Steps.{Failed}
 use Rattle.star_meaning.specs.Builtins.{ByName}
-use Rattle.star_meaning.specs.World.{World}
+use Rattle.star_meaning.specs.State.{State, function}
+use Rattle.star_meaning.specs.World.{Block, Frame, World, entered, start}
 use Rattle.star_meaning.specs.Expressions.{Setting}
-use Rattle.star_meaning.specs.Statements.{call_to}
+use Rattle.star_meaning.specs.Statements.{call_to, run_function}
 use Rattle.star_meaning.specs.Cells.{Shown, ran}
 use Rattle.star_meaning.specs.Growing.{Grown}
 use Rattle.star_meaning.specs.Renaming.{state_as}
@@ -39,6 +40,13 @@ AfterShowsTheMeaning = (program : Program) (m : MachineState) (node : ℕ) (inpu
 abbrev pub FunctionsStay : Type 0
 FunctionsStay = (s : Shown) (cell : CellParts) (inputs : List (List ℕ × Input)) (allowance : ℕ) → Grown cell s.objects (ran s cell inputs allowance).1.objects
 
--- where 32 functions are active no further call of a function has room
-abbrev pub CallsAreFew : Type 0
-CallsAreFew = (setting : Setting CellParts) (id : ℕ) (vs : List Value) (named : ByName) (w : World CellParts) → call_to setting 0 id vs named w ≡ Failed TooManyCalls w
+-- The number of calls that may still become active is 32 less the functions that are active: it is at the start of a cell,
+-- and where it is so at a call it is so in the body that the call runs. Where 32 are active, a call fails with TooManyCalls;
+-- where fewer are, it runs the function.
+pub record CallsAreFew : Type 0 where
+  pub start_fits : (s : State CellParts) (left : ℕ) → length (start s left).frame.active + 32 ≡ 32
+  pub body_fits : (id n : ℕ) (block : Block) (f : Frame) → length f.active + suc n ≡ 32 → length (entered id block f).active + n ≡ 32
+  pub last_fails : (setting : Setting CellParts) (n id : ℕ) (vs : List Value) (named : ByName) (w : World CellParts) → length w.frame.active + n ≡ 32 → length w.frame.active ≡ 32
+      → call_to setting n id vs named w ≡ Failed TooManyCalls w
+  pub others_run : (setting : Setting CellParts) (n id : ℕ) (vs : List Value) (named : ByName) (w : World CellParts) → length w.frame.active + n ≡ 32 → length w.frame.active < 32
+      → call_to setting n id vs named w ≡ run_function setting (call_to setting (n - 1)) id (function w.store.state id) vs named w

@@ -1,6 +1,6 @@
 -- The methods of lists, dicts and texts: one definition for each row of the table in docs/LANGUAGE.md.
 -- The first charge of 1 and the charge of the result's weight are those of `operation`.
-use Rattle.std.specs.Prelude.{ℕ, ◌+◌, Bool, true, false, if◌then◌else◌, List, [], ◌∷◌, ◌++◌, map, length, Option, Some, None, option_map, ℤ, pos, negsuc, ◌+ℤ◌, int_lt, codes}
+use Rattle.std.specs.Prelude.{ℕ, ◌+◌, Bool, true, false, if◌then◌else◌, List, [], ◌∷◌, ◌++◌, map, length, Option, Some, None, option_map, unwrap_or, ℤ, pos, negsuc, ◌+ℤ◌, int_lt, codes}
 use Rattle.std.specs.List.{insert, remove, flat_map}
 use Rattle.star_value.specs.declared.failure.Failure.TheVariants as failure
 use Rattle.star_value.specs.declared.key.Key.{Key}
@@ -53,10 +53,6 @@ insert_in locked id = with_two (λ i x. do
   check_unlocked locked id
   change_list id (λ items. insert items (insert_place z (length items)) x))
 
-abbrev pub or_zero : Option ℕ → ℕ
-or_zero None = 0
-or_zero (Some n) = n
-
 -- the last item where no place is given
 abbrev pub pop_item : {C : Type 0} → ObjectMethod C
 pop_item locked id = with_optional (λ i. do
@@ -64,7 +60,7 @@ pop_item locked id = with_optional (λ i. do
   check_unlocked locked id
   items ← read (λ s. list s id)
   x ← item_at items z
-  change (λ s. with_list s id (remove items (or_zero (place_of z (length items)))))
+  change (λ s. with_list s id (remove items (unwrap_or (place_of z (length items)) 0)))
   pure x)
 
 -- the place of the first equal item
@@ -90,21 +86,12 @@ list_methods =
 
 -- ---- dicts
 
--- this value, or None where none is given
-abbrev pub or_none : Option Value → Value
-or_none None = value.None
-or_none (Some v) = v
-
--- a value that stands at a key, or another one
-abbrev pub or_other : Option Value → Value → Value
-or_other None other = other
-or_other (Some v) other = v
-
+-- the value that stands at a key, or the one that is given, or None
 abbrev pub get : {C : Type 0} → ObjectMethod C
 get locked id = with_one_or_two (λ k d. do
   key ← key_in k
   charge_weight k
-  read (λ s. or_other (dict_get (dict s id) key) (or_none d)))
+  read (λ s. unwrap_or (dict_get (dict s id) key) (unwrap_or d value.None)))
 
 -- the value at a key, or the one that is given in its place
 abbrev pub found_or : {C : Type 0} → Option Value → Option Value → Action C Value
@@ -132,7 +119,7 @@ set_default locked id = with_one_or_two (λ k d. do
   check_unlocked locked id
   charge_weight k
   found ← read (λ s. dict_get (dict s id) key)
-  put_if_absent id key found (or_none d))
+  put_if_absent id key found (unwrap_or d value.None))
 
 abbrev pub keys_of : {C : Type 0} → ObjectMethod C
 keys_of locked id = with_none (read (λ s. key_values (dict s id)) >>= charged_list)

@@ -1,6 +1,6 @@
 -- The operators, index and slice, and what stores in a place: one definition for each row of the table in docs/LANGUAGE.md.
 -- The first charge of 1 and the charge of the result's weight are those of `operation`.
-use Rattle.std.specs.Prelude.{ℕ, ◌+◌, ◌==◌, Bool, true, false, not, ◌&&◌, if◌then◌else◌, List, [], ◌∷◌, ◌++◌, length, Option, Some, None, is_some, option_map, option_and_then, ℤ, pos, negsuc, ◌+ℤ◌, ◌-ℤ◌, ◌*ℤ◌, neg_ℤ, int_lt, slice_get, slice_set}
+use Rattle.std.specs.Prelude.{ℕ, ◌+◌, ◌==◌, Bool, true, false, not, ◌&&◌, if◌then◌else◌, List, [], ◌∷◌, ◌++◌, length, Option, Some, None, is_some, option_map, option_and_then, unwrap_or, ℤ, pos, negsuc, ◌+ℤ◌, ◌-ℤ◌, ◌*ℤ◌, neg_ℤ, int_lt, slice_get, slice_set}
 use Rattle.std.specs.Fmt.{signed_decimal}
 use Rattle.std.specs.Int.{int_bit_and, int_bit_or, int_bit_xor, int_bit_not, w128}
 use Rattle.std.specs.List.{filter_map, repeat}
@@ -199,10 +199,6 @@ abbrev pub bound : Option Value → Option (Option ℤ)
 bound None = Some None
 bound (Some v) = bound_at (out-Value v)
 
-abbrev pub or_int : Option ℤ → ℤ → ℤ
-or_int None z = z
-or_int (Some x) z = x
-
 -- a negative bound has the length added, and is then brought into its range
 abbrev pub bound_from : ℤ → ℤ → ℤ → Option ℤ → ℤ → ℤ
 bound_from low high count None otherwise = otherwise
@@ -247,7 +243,7 @@ slice x bounds = do
   start ← given_or failure.WrongType (bound bounds.start)
   stop ← given_or failure.WrongType (bound bounds.stop)
   step ← given_or failure.WrongType (bound bounds.step)
-  stepped (out-Value x) start stop (or_int step (pos 1))
+  stepped (out-Value x) start stop (unwrap_or step (pos 1))
 
 -- ---- changes of lists and dicts
 

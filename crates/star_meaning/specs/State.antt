@@ -29,23 +29,23 @@ empty = record { globals = []; objects = [] }
 unfoldable pub global : {C : Type 0} → State C → List ℕ → Option Value
 global s name = lookup (is_at (text_cmp name)) s.globals
 
-abbrev pub items_of : {C : Type 0} → Option (Object C) → List Value
-items_of (Some (AList items)) = items
-items_of (Some (ADict pairs)) = []
-items_of (Some (AFunction cell number defaults)) = []
-items_of None = []
+abbrev pub items_held : {C : Type 0} → Option (Object C) → List Value
+items_held (Some (AList items)) = items
+items_held (Some (ADict pairs)) = []
+items_held (Some (AFunction cell number defaults)) = []
+items_held None = []
 
-abbrev pub pairs_of : {C : Type 0} → Option (Object C) → List (Key × Value)
-pairs_of (Some (AList items)) = []
-pairs_of (Some (ADict pairs)) = pairs
-pairs_of (Some (AFunction cell number defaults)) = []
-pairs_of None = []
+abbrev pub pairs_held : {C : Type 0} → Option (Object C) → List (Key × Value)
+pairs_held (Some (AList items)) = []
+pairs_held (Some (ADict pairs)) = pairs
+pairs_held (Some (AFunction cell number defaults)) = []
+pairs_held None = []
 
-abbrev pub parts_of : {C : Type 0} → Option (Object C) → Option (C × ℕ × List Value)
-parts_of (Some (AList items)) = None
-parts_of (Some (ADict pairs)) = None
-parts_of (Some (AFunction cell number defaults)) = Some (cell, number, defaults)
-parts_of None = None
+abbrev pub function_held : {C : Type 0} → Option (Object C) → Option (C × ℕ × List Value)
+function_held (Some (AList items)) = None
+function_held (Some (ADict pairs)) = None
+function_held (Some (AFunction cell number defaults)) = Some (cell, number, defaults)
+function_held None = None
 
 -- the object of a number, if there is one
 unfoldable pub object : {C : Type 0} → State C → ℕ → Option (Object C)
@@ -53,15 +53,15 @@ object s id = slice_get s.objects id
 
 -- the items of a list
 unfoldable pub list : {C : Type 0} → State C → ℕ → List Value
-list s id = items_of (object s id)
+list s id = items_held (object s id)
 
 -- the pairs of a dict
 unfoldable pub dict : {C : Type 0} → State C → ℕ → List (Key × Value)
-dict s id = pairs_of (object s id)
+dict s id = pairs_held (object s id)
 
 -- the cell, the number and the defaults of a function
 unfoldable pub function : {C : Type 0} → State C → ℕ → Option (C × ℕ × List Value)
-function s id = parts_of (object s id)
+function s id = function_held (object s id)
 
 -- ---- changes
 

@@ -28,9 +28,9 @@ use Rattle.star_meaning.specs.Values.{is_empty, items_of, new_function}
 use Rattle.star_meaning.specs.Showing.{made, quoted, ◌<+>◌}
 use Rattle.star_meaning.specs.Operators.{augmented}
 use Rattle.star_meaning.specs.Builtins.{ByName}
-use Rattle.star_meaning.specs.World.{World, Work, Fault, Course, located, acting, seen, write, bind, unbound, distinct, is_among, in_function, locking, lock_of}
+use Rattle.star_meaning.specs.World.{World, Work, Fault, Course, located, acting, reading, write, bind, unbound, distinct, is_among, in_function, locking, lock_of}
 use Rattle.star_meaning.specs.World as world
-use Rattle.star_meaning.specs.Expressions.{Setting, Callee, Meant, naming, target_names, tests_value, truth, choose, store_in, next_item, values, meant}
+use Rattle.star_meaning.specs.Expressions.{Setting, Callee, Meant, naming, target_names, tests_value, truth, store_in, next_item, values, meant}
 
 -- ---- the names that statements bind
 
@@ -77,9 +77,9 @@ go_on rest flow.Continue = pure flow.Continue
 go_on rest (flow.Return v) = pure (flow.Return v)
 
 -- statements up to the first that does not end with "on"; the Bool says whether the last of them is the cell's last
-abbrev pub in_order : {C S : Type 0} → (Bool → S → Course C Flow) → Bool → List S → Course C Flow
-in_order run last [] = pure flow.On
-in_order run last (s ∷ more) = run (last && is_empty more) s >>= go_on (in_order run last more)
+abbrev pub in_sequence : {C S : Type 0} → (Bool → S → Course C Flow) → Bool → List S → Course C Flow
+in_sequence run last [] = pure flow.On
+in_sequence run last (s ∷ more) = run (last && is_empty more) s >>= go_on (in_sequence run last more)
 
 -- the next turns, unless the body of a turn breaks off or returns
 abbrev pub after_turn : {C : Type 0} → Course C Flow → Flow → Course C Flow
@@ -142,14 +142,14 @@ module _ {C : Type 0} (setting : Setting C) (call : Callee C) where
   small_of last s = located s.line (acting (charge 1) >> kind_of last s.kind)
 
   abbrev pub line_of : Bool → Line → Course C Flow
-  line_of last line = in_order small_of last line.smalls
+  line_of last line = in_sequence small_of last line.smalls
 
   -- ---- statements with blocks
 
   -- the statements in a block, of which each does this
   abbrev pub each_of : {S : Type 0} → (S → Course C Flow) → Block S → Course C Flow
   each_of run (blocks.Inline line) = line_of false line
-  each_of run (blocks.Indented all) = in_order (λ last s. run s) false all
+  each_of run (blocks.Indented all) = in_sequence (λ last s. run s) false all
 
   -- no statement in a block is the cell's last one, or has a number
   abbrev pub block_of : Block (Doing C) → Course C Flow
@@ -164,7 +164,7 @@ module _ {C : Type 0} (setting : Setting C) (call : Callee C) where
   condition_of at e = located at ((meant setting call e).value >>= truth)
 
   abbrev pub branch_of : ℕ → Branch (Doing C) → Course C Flow → Course C Flow
-  branch_of at branch other = condition_of at branch.condition >>= (λ t. choose t (block_of branch.body) other)
+  branch_of at branch other = condition_of at branch.condition >>= (λ t. if t then block_of branch.body else other)
 
   abbrev pub branches_of : ℕ → List (Branch (Doing C)) → Option (Block (Doing C)) → Course C Flow
   branches_of at [] other = else_of other
@@ -287,4 +287,4 @@ run_function setting call id (Some parts) vs named = run_defined setting call id
 -- a call of a function, while so many more may become active
 unfoldable pub call_to : {C : Type 0} → Setting C → ℕ → Callee C
 call_to setting zero id vs named = fail failure.TooManyCalls
-call_to setting (suc n) id vs named = seen (λ s. function s id) >>= (λ parts. run_function setting (call_to setting n) id parts vs named)
+call_to setting (suc n) id vs named = reading (λ s. function s id) >>= (λ parts. run_function setting (call_to setting n) id parts vs named)

@@ -3,6 +3,7 @@ use Rattle.std.specs.Prelude.{◌≡◌, ℕ, false, List, [], ◌∷◌, pos}
 use Rattle.star_syntax.specs.declared.expression.Expr.{Expr}
 use Rattle.star_syntax.specs.declared.expression.Expr.TheVariants as e
 use Rattle.star_syntax.specs.declared.expression.Arguments.{Arguments}
+use Rattle.star_syntax.specs.declared.expression.Arm.{Arm}
 use Rattle.star_syntax.specs.declared.expression.ChainLevel.{ChainLevel}
 use Rattle.star_syntax.specs.declared.expression.ChainOp.{ChainOp}
 use Rattle.star_syntax.specs.declared.expression.ChainOp.TheVariants as chain
@@ -67,8 +68,16 @@ branch condition body = record { condition = condition; body = body }
 abbrev pub def : List ℕ → List (List ℕ) → List (Named Expr) → Block Statement → Definition Statement
 def points required defaults body = record { name = points; required = required; defaults = defaults; comma = false; body = body }
 
+-- a cell that reads the inputs of these names, and one that reads none
+abbrev pub cell_reading : List (List ℕ) → List Statement → CellParts
+cell_reading names statements = record { source = []; «module» = record { statements = statements }; inputs = names }
+
 abbrev pub cell : List Statement → CellParts
-cell statements = record { source = []; «module» = record { statements = statements }; inputs = [] }
+cell statements = cell_reading [] statements
+
+-- an arm of a conditional: a value and its condition
+abbrev pub arm : Expr → Expr → Arm Expr
+arm v condition = record { value = v; condition = condition }
 
 -- a cell that ends, with what it writes and its steps; and one that fails, with the failure and its line
 abbrev pub done : List ℕ → ℕ → Ran

@@ -1,8 +1,9 @@
 -- Machine states, which of them are valid over a program, and the shown states that they stand for.
-use Rattle.std.specs.Prelude.{◌≤◌, ℕ, ◌*◌, ◌==◌, nat_le, Bool, true, false, not, ◌&&◌, List, [], ◌∷◌, ◌++◌, map, length, Option, Some, None, option_and_then, is_some, IsTrue, slice_get}
+use Rattle.std.specs.Prelude.{◌≤◌, ℕ, ◌*◌, ◌==◌, ◌^◌, nat_le, nat_lt, Bool, true, false, not, ◌&&◌, List, [], ◌∷◌, ◌++◌, map, length, Option, Some, None, option_and_then, is_some, IsTrue, slice_get}
 use Rattle.std.specs.List.{list_all, list_any}
 use Rattle.std.specs.List.Sorted.{IsStrictlySortedBy}
 use Rattle.std.specs.Map.{keys_of}
+use Rattle.std.specs.Str.{all_scalars}
 use Rattle.chex_base.specs.declared.input.Input.{Input}
 use Rattle.chex_base.specs.TextOrder.{text_cmp}
 use Rattle.star_syntax.specs.declared.cell.Program.{Program}
@@ -11,13 +12,15 @@ use Rattle.star_syntax.specs.declared.statement.Statement.{Statement}
 use Rattle.star_syntax.specs.CellParts.{CellParts}
 use Rattle.star_syntax.specs.Cells.{numbered}
 use Rattle.star_value.specs.declared.key.Key.{Key}
+use Rattle.star_value.specs.declared.range.Range.{Range}
 use Rattle.star_value.specs.declared.value.Value.{Value, fold-Value}
 use Rattle.star_value.specs.declared.value.Value.TheOpen.{Value-F}
 use Rattle.star_value.specs.KeyOrder.{same_key}
+use Rattle.star_value.specs.Keys as keys
 use Rattle.star_value.specs.Weight.{depth}
 use Rattle.star_meaning.specs.declared.ran.Ran.{Ran}
 use Rattle.star_meaning.specs.State.{Object, AList, ADict, AFunction, State}
-use Rattle.star_meaning.specs.Values.{is_zero}
+use Rattle.star_meaning.specs.Values.{has_128_bits, is_zero}
 use Rattle.star_meaning.specs.Expressions.{Setting}
 use Rattle.star_meaning.specs.Cells.{Shown, function_in, ran, run}
 
@@ -60,10 +63,13 @@ fits_step objects _ = true
 unfoldable pub fits : {C : Type 0} → List (Object C) → Value → Bool
 fits objects = fold-Value Bool (fits_step objects)
 
--- a property of each value in an object, and of each value in a state
+-- a property of each value in an object, and of each value in a state; a key counts as the value that it is
+abbrev pub all_in_pair : (Value → Bool) → Key × Value → Bool
+all_in_pair test pair = test (keys.value_of pair.0) && test pair.1
+
 abbrev pub all_in_object : {C : Type 0} → (Value → Bool) → Object C → Bool
 all_in_object test (AList items) = list_all test items
-all_in_object test (ADict pairs) = list_all (λ pair. test pair.1) pairs
+all_in_object test (ADict pairs) = list_all (all_in_pair test) pairs
 all_in_object test (AFunction cell number defaults) = list_all test defaults
 
 abbrev pub all_in : {C : Type 0} → (Value → Bool) → State C → Bool
@@ -79,23 +85,41 @@ has_distinct_keys (AList items) = true
 has_distinct_keys (ADict pairs) = are_distinct pairs
 has_distinct_keys (AFunction cell number defaults) = true
 
--- What each machine keeps, over whatever program.
+-- the numbers of nodes, and of functions in their cells, have 32 bits
+abbrev pub has_32_bits : ℕ → Bool
+has_32_bits n = nat_lt n (2 ^ 32)
+
+abbrev pub has_small_numbers : Object ℕ → Bool
+has_small_numbers (AList items) = true
+has_small_numbers (ADict pairs) = true
+has_small_numbers (AFunction cell number defaults) = has_32_bits cell && has_32_bits number
+
+-- What each machine keeps, over whatever program. The numbers of objects are below their count.
 pub record IsMachine (m : MachineState) : Type 0 where
   pub names : IsStrictlySortedBy text_cmp (keys_of m.state.globals)
+  pub characters : IsTrue (list_all all_scalars (keys_of m.state.globals))
+  pub nodes : IsTrue (list_all has_32_bits m.ran)
+  pub numbers : IsTrue (list_all has_small_numbers m.state.objects)
   pub keys : IsTrue (list_all has_distinct_keys m.state.objects)
   pub references : IsTrue (all_in (fits m.state.objects) m.state)
   pub few : length m.ran ≤ 64
   pub room : length m.state.objects ≤ 1000000 * length m.ran
 
--- ---- values: tuples nest at most 64 deep, and ranges have a step other than 0
+-- ---- values: integers have 128 bits, texts are Unicode scalar values, ranges have a step other than 0, and tuples nest at
+-- most 64 deep
 
-abbrev pub steps_fit : Value-F Bool → Bool
-steps_fit (Value-F.Range r) = not (is_zero r.step)
-steps_fit (Value-F.Tuple all) = list_all (λ b. b) all
-steps_fit _ = true
+abbrev pub proper_range : Range → Bool
+proper_range r = has_128_bits r.start && has_128_bits r.stop && has_128_bits r.step && not (is_zero r.step)
+
+abbrev pub proper_step : Value-F Bool → Bool
+proper_step (Value-F.Int z) = has_128_bits z
+proper_step (Value-F.Text points) = all_scalars points
+proper_step (Value-F.Range r) = proper_range r
+proper_step (Value-F.Tuple all) = list_all (λ b. b) all
+proper_step _ = true
 
 unfoldable pub is_proper : Value → Bool
-is_proper v = nat_le (depth v) 64 && fold-Value Bool steps_fit v
+is_proper v = nat_le (depth v) 64 && fold-Value Bool proper_step v
 
 -- ---- programs
 

@@ -26,10 +26,14 @@ has ids id = list_any (λ other. other == id) ids
 
 -- ---- integers
 
+-- whether an integer has 128 bits
+abbrev pub has_128_bits : ℤ → Bool
+has_128_bits (pos n) = nat_lt n (2 ^ 127)
+has_128_bits (negsuc n) = nat_lt n (2 ^ 127)
+
 -- an integer of 128 bits
 unfoldable pub in_range : ℤ → Option ℤ
-in_range (pos n) = if nat_lt n (2 ^ 127) then Some (pos n) else None
-in_range (negsuc n) = if nat_lt n (2 ^ 127) then Some (negsuc n) else None
+in_range z = if has_128_bits z then Some z else None
 
 -- an integer as a result
 abbrev pub integer : {W : Type 0} → ℤ → Steps W Failure Value

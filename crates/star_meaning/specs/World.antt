@@ -66,8 +66,8 @@ unfoldable pub acting : {C A : Type 0} → Action C A → Work C A
 acting p = λ w. with_store w (p w.store)
 
 -- what is read from the state
-abbrev pub seen : {C A : Type 0} → (State C → A) → Work C A
-seen of = λ w. Went (of w.store.state) w
+abbrev pub reading : {C A : Type 0} → (State C → A) → Work C A
+reading of = λ w. Went (of w.store.state) w
 
 -- one step, the operation with its own charges, and the weight of its result, of which 1 is paid already
 unfoldable pub operation : {C : Type 0} → Work C Value → Work C Value
@@ -171,8 +171,11 @@ unfoldable pub locking : {C E A : Type 0} → List ℕ → Steps (World C) E A �
 locking ids p = λ w. unlocked w.frame.locked (p (with_frame (record w.frame { locked = w.frame.locked ++ ids }) w))
 
 -- the steps of a function's body: its own block, the function active
+abbrev pub entered : ℕ → Block → Frame → Frame
+entered id block f = record { blocks = block ∷ []; active = f.active ++ id ∷ []; locked = f.locked }
+
 unfoldable pub in_function : {C A : Type 0} → ℕ → Block → Work C A → Work C A
-in_function id block p = λ w. put_back w.frame (p (with_frame (record { blocks = block ∷ []; active = w.frame.active ++ id ∷ []; locked = w.frame.locked }) w))
+in_function id block p = λ w. put_back w.frame (p (with_frame (entered id block w.frame) w))
 
 -- ---- iteration
 

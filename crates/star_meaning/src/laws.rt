@@ -27,8 +27,9 @@ pub fn functions_stay()
     ensures { laws.FunctionsStay }
 {}
 
-/// Where 32 functions are active no further call of a function has room.
-#[tactic(auto, unfolding(crate::specs::Statements::call_to))]
+/// At most 32 functions are active: the depth of calls is 32 less the active functions, from the
+/// start of a cell on, and a call fails with TooManyCalls exactly where it is 0.
+#[tactic(auto, using(crate::proofs::FewCalls::calls_are_few))]
 pub fn calls_are_few()
     ensures { laws.CallsAreFew }
 {}

@@ -76,15 +76,15 @@ abbrev pub clause_uses : Clause Seen → List Use
 clause_uses (For targets over) = all_uses targets ++ over.uses
 clause_uses (If condition) = condition.uses
 
--- the literal of arguments that are one text literal, with nothing beside it
-abbrev pub lone_literal : List Seen → List (Named Seen) → Bool → Option (List ℕ)
-lone_literal (x ∷ []) [] false = x.literal
-lone_literal _ _ _ = None
+-- the literal of arguments that are one text literal, with nothing beside it, where this is the literal of a tree
+abbrev pub lone_literal : {E : Type 0} → (E → Option (List ℕ)) → List E → List (Named E) → Bool → Option (List ℕ)
+lone_literal literal (x ∷ []) [] false = literal x
+lone_literal literal _ _ _ = None
 
 -- the same where such arguments come first
-abbrev pub first_literal : List (Suffix Seen) → Option (List ℕ)
-first_literal (Call given ∷ more) = lone_literal given.positional given.named given.comma
-first_literal _ = None
+abbrev pub first_literal : {E : Type 0} → (E → Option (List ℕ)) → List (Suffix E) → Option (List ℕ)
+first_literal literal (Call given ∷ more) = lone_literal literal given.positional given.named given.comma
+first_literal literal _ = None
 
 -- the uses in what is indexed or called, where its first suffix is `(TEXT)` with this text, or is not
 abbrev pub head_uses : Seen → Option (List ℕ) → List Use
@@ -104,7 +104,7 @@ layer_seen (Expr-F.List items _) = inner (all_uses items)
 layer_seen (Expr-F.ListOver item clauses) = inner (item.uses ++ flat_map clause_uses clauses)
 layer_seen (Expr-F.Dict pairs _) = inner (flat_map (λ pair. pair.key.uses ++ pair.value.uses) pairs)
 layer_seen (Expr-F.DictOver key value clauses) = inner (key.uses ++ (value.uses ++ flat_map clause_uses clauses))
-layer_seen (Expr-F.Primary head suffixes) = inner (head_uses head (first_literal suffixes) ++ flat_map suffix_uses suffixes)
+layer_seen (Expr-F.Primary head suffixes) = inner (head_uses head (first_literal (λ x. x.literal) suffixes) ++ flat_map suffix_uses suffixes)
 layer_seen (Expr-F.Signed _ operand) = inner operand.uses
 layer_seen (Expr-F.Chain _ first links) = inner (first.uses ++ flat_map (λ link. link.operand.uses) links)
 layer_seen (Expr-F.Compare left _ right) = inner (left.uses ++ right.uses)

@@ -8,6 +8,8 @@ pub choices_hold : Choices
 unfolding evaluation
 choices_hold = record {
   conditional = one_cell (λ st call. simp layers);
+  second_arm = one_cell (λ st call. simp layers);
+  no_arm = one_cell (λ st call. simp layers);
   or_second = one_cell (λ st call. simp layers);
   and_first = one_cell (λ st call. simp layers);
   and_third = one_cell (λ st call. simp layers);

@@ -1,5 +1,5 @@
 -- Arithmetic on integers, texts, tuples and lists: what these cells write and how many steps they take, by the definitions.
-use Rattle.std.specs.Prelude.{[], ◌∷◌, false, codes}
+use Rattle.std.specs.Prelude.{[], ◌∷◌, true, false, codes}
 use Rattle.star_syntax.specs.declared.expression.Expr.TheVariants as e
 use Rattle.star_syntax.specs.declared.expression.ChainLevel.TheVariants as level
 use Rattle.star_syntax.specs.declared.operator.BinaryOp.TheVariants as op
@@ -12,7 +12,7 @@ pub record Arithmetic : Type 0 where
   --     "ab" + "c"
   pub add_texts : Writes (chained level.Sum op.Add (e.Text (codes "ab")) (e.Text (codes "c"))) (codes "\"abc\"\n") 17
   --     (1,) + (2,)
-  pub add_tuples : Writes (chained level.Sum op.Add (e.Tuple (int 1 ∷ []) false) (e.Tuple (int 2 ∷ []) false)) (codes "(1, 2)\n") 18
+  pub add_tuples : Writes (chained level.Sum op.Add (e.Tuple (int 1 ∷ []) true) (e.Tuple (int 2 ∷ []) true)) (codes "(1, 2)\n") 18
   --     [1] + [2, 3]
   pub add_lists : Writes (chained level.Sum op.Add (e.List (int 1 ∷ []) false) (e.List (int 2 ∷ int 3 ∷ []) false)) (codes "[1, 2, 3]\n") 21
   --     5 - 7
@@ -30,7 +30,7 @@ pub record Arithmetic : Type 0 where
   --     2 * [1]
   pub repeat_list : Writes (chained level.Product op.Mul (int 2) (e.List (int 1 ∷ []) false)) (codes "[1, 1]\n") 15
   --     (1,) * -1
-  pub repeat_tuple : Writes (chained level.Product op.Mul (e.Tuple (int 1 ∷ []) false) (e.Signed (sign.Minus ∷ []) (int 1))) (codes "()\n") 11
+  pub repeat_tuple : Writes (chained level.Product op.Mul (e.Tuple (int 1 ∷ []) true) (e.Signed (sign.Minus ∷ []) (int 1))) (codes "()\n") 11
   --     -7 // 2
   pub floor : Writes (chained level.Product op.Floor (e.Signed (sign.Minus ∷ []) (int 7)) (int 2)) (codes "-4\n") 9
   --     -7 % 2

@@ -1,5 +1,5 @@
 -- Cells one after another: what these cells write and how many steps they take, by the definitions.
-use Rattle.std.specs.Prelude.{◌≡◌, [], ◌∷◌, false, pos, codes}
+use Rattle.std.specs.Prelude.{◌≡◌, [], ◌∷◌, true, false, pos, codes}
 use Rattle.star_syntax.specs.declared.expression.Expr.TheVariants as e
 use Rattle.star_syntax.specs.declared.expression.ChainLevel.TheVariants as level
 use Rattle.star_syntax.specs.declared.operator.BinaryOp.TheVariants as op
@@ -10,7 +10,7 @@ use Rattle.star_syntax.specs.declared.statement.Statement.TheVariants as s
 use Rattle.chex_base.specs.declared.input.Input.TheVariants as input
 use Rattle.star_value.specs.declared.failure.Failure.TheVariants as failure
 use Rattle.star_meaning.specs.Cells.{runs}
-use Rattle.star_meaning.specs.Trees.{Give, Writes, called, cell, chained, def, done, failed, indexed, int, line, method, name, pair}
+use Rattle.star_meaning.specs.Trees.{Give, Writes, called, cell, cell_reading, chained, def, done, failed, indexed, int, line, method, name, pair}
 
 pub record Cells : Type 0 where
   --     print(1 + 2)
@@ -51,13 +51,13 @@ pub record Cells : Type 0 where
   --         return input("n")
   -- cell 2
   --     print(f())
-  pub inputs_1 : runs (cell (s.Def 1 (def (codes "f") [] [] (blocks.Indented (line 2 (small.Return (called (name (codes "input")) (e.Text (codes "n") ∷ []) ∷ [])) ∷ []))) ∷ []) ∷ cell (line 1 (small.Tests (called (name (codes "print")) (called (name (codes "f")) [] ∷ []) ∷ [])) ∷ []) ∷ []) (((codes "m"), input.Int (pos 1)) ∷ ((codes "n"), input.Int (pos 1)) ∷ []) 1000000 ≡ done [] 2 ∷ done (codes "1\n") 10 ∷ []
+  pub inputs_1 : runs (cell_reading ((codes "n") ∷ []) (s.Def 1 (def (codes "f") [] [] (blocks.Indented (line 2 (small.Return (called (name (codes "input")) (e.Text (codes "n") ∷ []) ∷ [])) ∷ []))) ∷ []) ∷ cell (line 1 (small.Tests (called (name (codes "print")) (called (name (codes "f")) [] ∷ []) ∷ [])) ∷ []) ∷ []) (((codes "m"), input.Int (pos 1)) ∷ ((codes "n"), input.Int (pos 1)) ∷ []) 1000000 ≡ done [] 2 ∷ done (codes "1\n") 10 ∷ []
   -- cell 1
   --     def f():
   --         return input("n")
   -- cell 2
   --     print(f())
-  pub inputs_2 : runs (cell (s.Def 1 (def (codes "f") [] [] (blocks.Indented (line 2 (small.Return (called (name (codes "input")) (e.Text (codes "n") ∷ []) ∷ [])) ∷ []))) ∷ []) ∷ cell (line 1 (small.Tests (called (name (codes "print")) (called (name (codes "f")) [] ∷ []) ∷ [])) ∷ []) ∷ []) (((codes "n"), input.Int (pos 2)) ∷ []) 1000000 ≡ done [] 2 ∷ done (codes "2\n") 10 ∷ []
+  pub inputs_2 : runs (cell_reading ((codes "n") ∷ []) (s.Def 1 (def (codes "f") [] [] (blocks.Indented (line 2 (small.Return (called (name (codes "input")) (e.Text (codes "n") ∷ []) ∷ [])) ∷ []))) ∷ []) ∷ cell (line 1 (small.Tests (called (name (codes "print")) (called (name (codes "f")) [] ∷ []) ∷ [])) ∷ []) ∷ []) (((codes "n"), input.Int (pos 2)) ∷ []) 1000000 ≡ done [] 2 ∷ done (codes "2\n") 10 ∷ []
   -- cell 1
   --     print(1)
   --     x = 1 // 0
@@ -94,7 +94,7 @@ pub record Cells : Type 0 where
   --         x.append(i)
   pub appended_to_itself : Give (cell (line 1 (small.Assign (name (codes "x") ∷ []) (e.List (int 1 ∷ int 2 ∷ []) false ∷ [])) ∷ s.For 2 (name (codes "i") ∷ []) (name (codes "x") ∷ []) (blocks.Indented (line 3 (small.Tests (method (name (codes "x")) (codes "append") (name (codes "i") ∷ []) ∷ [])) ∷ [])) ∷ []) ∷ []) (failed [] failure.ChangedWhileIterated 3 12 ∷ [])
   --     print("a,b".split(","), (1,), "%d%%" % 5)
-  pub three_printed : Writes (called (name (codes "print")) (method (e.Text (codes "a,b")) (codes "split") (e.Text (codes ",") ∷ []) ∷ e.Tuple (int 1 ∷ []) false ∷ chained level.Product op.Mod (e.Text (codes "%d%%")) (int 5) ∷ [])) (codes "[\"a\", \"b\"] (1,) 5%\n") 49
+  pub three_printed : Writes (called (name (codes "print")) (method (e.Text (codes "a,b")) (codes "split") (e.Text (codes ",") ∷ []) ∷ e.Tuple (int 1 ∷ []) true ∷ chained level.Product op.Mod (e.Text (codes "%d%%")) (int 5) ∷ [])) (codes "[\"a\", \"b\"] (1,) 5%\n") 49
   -- cell 1
   --     x = [1]
   --     y = [2]

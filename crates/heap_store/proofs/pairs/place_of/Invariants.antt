@@ -3,4 +3,4 @@ use Rattle.heap_store.specs.Places as places
 use Rattle.heap_store.proofs.pairs.place_of.Given as goal
 
 abbrev pub invariant-loop-place : goal.invariant-loop-place
-invariant-loop-place l = places.place_of l.pairs l.key ≡ l.place + places.place_of (drop l.place l.pairs) l.key
+invariant-loop-place l = places.key_place l.pairs l.key ≡ l.place + places.key_place (drop l.place l.pairs) l.key
