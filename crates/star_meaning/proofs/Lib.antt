@@ -3,6 +3,7 @@ pub mod Evaluated
 pub mod FewCalls
 pub mod Forms
 pub mod GrownLemmas
+pub mod LaterLemmas
 pub mod OneCell
 pub mod Opened
 pub mod Renamed

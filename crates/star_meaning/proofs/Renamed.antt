@@ -8,9 +8,9 @@ use Rattle.star_value.specs.Charge.{charged}
 use Rattle.star_meaning.specs.State.{Object, AList, ADict, AFunction, State, items_held, pairs_held, object, list, dict, next_id, with_new, with_list, with_dict}
 use Rattle.star_meaning.specs.Steps.{Outcome, Went, Failed, Store, Action, and_then, paid, ◌>>=◌, pure, fail, given_or, charge, read, change}
 use Rattle.star_meaning.specs.Validity.{renamed}
-use Rattle.star_meaning.specs.Renaming.{Names, state_as, store_as, outcome_as, reached, Same}
-use Rattle.star_meaning.specs.Growing.{Grown}
-use Rattle.star_meaning.proofs.GrownLemmas.{grown_same, grown_then}
+use Rattle.star_meaning.specs.Renaming.{Names, state_as, store_as, outcome_as, Same}
+use Rattle.star_meaning.specs.Growing.{Later, reached}
+use Rattle.star_meaning.proofs.LaterLemmas.{later_charged, later_same, later_then}
 
 module _ {C D : Type 0} (name : C → D) where
   -- ---- reads and changes
@@ -69,11 +69,11 @@ module _ {C D : Type 0} (name : C → D) where
   unfolding next_id
   next_id_as s = length_same s.objects
 
--- what is reached after a change has grown
-after_then : {C A B : Type 0} (here : C) (os : List (Object C)) (o : Outcome (Store C) Failure A) (g : A → Action C B) → Grown here os (reached o).state.objects
-    → ((a : A) (s : Store C) → Grown here s.state.objects (reached (g a s)).state.objects) → Grown here os (reached (and_then o g)).state.objects
-after_then here os (Went a s) g h k = grown_then here os s.state.objects (reached (g a s)).state.objects h (k a s)
-after_then here os (Failed e s) g h k = h
+-- what is reached by one operation after another
+after_then : {C A B : Type 0} (here : C) (locked : List ℕ) (s : Store C) (o : Outcome (Store C) Failure A) (g : A → Action C B) → Later here locked s (reached o)
+    → ((a : A) (t : Store C) → Later here locked t (reached (g a t))) → Later here locked s (reached (and_then o g))
+after_then here locked s (Went a t) g h k = later_then here locked s t (reached (g a t)) h (k a t)
+after_then here locked s (Failed e t) g h k = h
 
 module _ {C D : Type 0} (name : Names C D) where
   then_at : {A B : Type 0} (o : Outcome (Store C) Failure A) (g : A → Action C B) (h : A → Action D B)
@@ -82,14 +82,14 @@ module _ {C D : Type 0} (name : Names C D) where
   then_at (Failed e s) g h k = refl
 
   -- nothing is done
-  idle : (s : Store C) → Grown name.here s.state.objects s.state.objects
-  idle s = grown_same name.here s.state.objects
+  idle : (s : Store C) → Later name.here name.locked s s
+  idle s = later_same name.here name.locked s
 
   pub same_then : {A B : Type 0} (p : Action C A) (q : Action D A) (g : A → Action C B) (h : A → Action D B)
       → Same name p q → ((a : A) → Same name (g a) (h a)) → Same name (p >>= g) (q >>= h)
   same_then p q g h k l = record {
     holds = λ s. ap (λ o. and_then o h) (k.holds s) ∙ then_at (p s) g h l;
-    keeps = λ s. after_then name.here s.state.objects (p s) g (k.keeps s) (λ a. (l a).keeps);
+    keeps = λ s. after_then name.here name.locked s (p s) g (k.keeps s) (λ a. (l a).keeps);
   }
 
   pub same_pure : {A : Type 0} (a : A) → Same name (pure a) (pure a)
@@ -106,17 +106,13 @@ module _ {C D : Type 0} (name : Names C D) where
   paid_same s (Ok done, left) = refl
   paid_same s (Err e, left) = refl
 
-  paid_keeps : (s : State C) (c : Result (Unit {0}) Failure × ℕ) → Grown name.here s.objects (reached (paid s c)).state.objects
-  paid_keeps s (Ok done, left) = grown_same name.here s.objects
-  paid_keeps s (Err e, left) = grown_same name.here s.objects
-
   pub same_charge : (n : ℕ) → Same name (charge n) (charge n)
   unfolding charge
-  same_charge n = record { holds = λ s. paid_same s.state (charged s.left n); keeps = λ s. paid_keeps s.state (charged s.left n) }
+  same_charge n = record { holds = λ s. paid_same s.state (charged s.left n); keeps = λ s. later_charged name.here name.locked s n }
 
   pub same_read : {A : Type 0} (of : State C → A) (other : State D → A) → ((s : State C) → other (state_as name.to s) ≡ of s) → Same name (read of) (read other)
   same_read of other k = record { holds = λ s. ap (λ a. Went a (store_as name.to s)) (k s.state); keeps = idle }
 
   pub same_change : (by : State C → State C) (other : State D → State D) → ((s : State C) → other (state_as name.to s) ≡ state_as name.to (by s))
-      → ((s : State C) → Grown name.here s.objects (by s).objects) → Same name (change by) (change other)
-  same_change by other k l = record { holds = λ s. ap (λ t. Went tt (record { state = t; left = s.left })) (k s.state); keeps = λ s. l s.state }
+      → ((s : Store C) → Later name.here name.locked s (record { state = by s.state; left = s.left })) → Same name (change by) (change other)
+  same_change by other k l = record { holds = λ s. ap (λ t. Went tt (record { state = t; left = s.left })) (k s.state); keeps = l }

@@ -17,8 +17,8 @@ use Rattle.star_meaning.specs.Expressions.{Callee, Setting}
 use Rattle.star_meaning.specs.Statements.{call_to}
 use Rattle.star_meaning.specs.Cells.{Shown, function_in, is_def, ran, ran_of, run, shown_setting, statements_from}
 use Rattle.star_meaning.specs.Validity.{MachineState, after, number_or, numbered_from, ran_at, renamed, cell_of, cell_or_none, function_at, run_at, shown, numbered_setting}
-use Rattle.star_meaning.specs.Renaming.{Names, state_as, world_as, outcome_as, reached, SameSteps, SameSetting, SameCallee}
-use Rattle.star_meaning.specs.Growing.{Grown, IsKept, IsMade}
+use Rattle.star_meaning.specs.Renaming.{Names, state_as, world_as, outcome_as, SameSteps, SameSetting, SameCallee}
+use Rattle.star_meaning.specs.Growing.{Grown, IsKept, IsMade, reached}
 use Rattle.star_meaning.proofs.RenamedWorld.{same_going, same_next}
 use Rattle.star_meaning.proofs.RenamedStatements.{same_call_to, same_go_on, same_statement}
 
@@ -36,7 +36,7 @@ module _ {C D : Type 0} (name : Names C D) (st : Setting C) (su : Setting D) (sa
   pub run_as : (tree : Module) (allowance : ℕ) (s : State C) → run su tree allowance (state_as name.to s) ≡ ((run st tree allowance s).0, state_as name.to (run st tree allowance s).1)
   unfolding run
   run_as tree allowance s =
-      ap (ran_of allowance) ((same_statements_from (call_to st 32) (call_to su 32) (same_call_to name st su same_st 32) 0 tree.statements).holds (start s (allowance - 1)))
+      ap (ran_of allowance) (((same_statements_from (call_to st 32) (call_to su 32) (same_call_to name st su same_st 32) 0 tree.statements).at (start s (allowance - 1))).holds)
       ∙ ran_as allowance (statements_from st (call_to st 32) 0 tree.statements (start s (allowance - 1)))
 
 define_as : (n : ℕ) (o : Option CellParts) → function_in (cell_or_none o) n ≡ option_and_then (λ cell. function_in cell n) o
@@ -44,7 +44,7 @@ define_as n None = refl
 define_as n (Some cell) = refl
 
 -- the numbers of a program's cells, and the cells themselves
-pub same_numbers : (program : Program) (node : ℕ) (inputs : List (List ℕ × Input)) → SameSetting (record { to = cell_of program; here = node }) (numbered_setting program node inputs) (shown_setting (cell_of program node) inputs)
+pub same_numbers : (program : Program) (node : ℕ) (inputs : List (List ℕ × Input)) → SameSetting (record { to = cell_of program; here = node; locked = [] }) (numbered_setting program node inputs) (shown_setting (cell_of program node) inputs)
 unfolding function_at cell_of
 same_numbers program node inputs = record { define = λ c n. define_as n (numbered program.cells c); here = refl; cell = refl; inputs = refl }
 
@@ -53,7 +53,7 @@ pub ran_by_numbers : (program : Program) (m : MachineState) (node : ℕ) (inputs
     → ran (shown program m) (cell_of program node) inputs allowance ≡ ((run_at program m node inputs allowance).0, state_as (cell_of program) (run_at program m node inputs allowance).1)
 unfolding ran shown run_at
 ran_by_numbers program m node inputs allowance =
-    run_as (record { to = cell_of program; here = node }) (numbered_setting program node inputs) (shown_setting (cell_of program node) inputs) (same_numbers program node inputs) (cell_of program node).«module» allowance m.state
+    run_as (record { to = cell_of program; here = node; locked = [] }) (numbered_setting program node inputs) (shown_setting (cell_of program node) inputs) (same_numbers program node inputs) (cell_of program node).«module» allowance m.state
 
 -- ---- what stays of the objects
 
@@ -66,19 +66,19 @@ module _ {C D : Type 0} (name : Names C D) (st : Setting C) (su : Setting D) (sa
   unfolding run
   run_grows tree allowance s =
       reached_as s.objects allowance (statements_from st (call_to st 32) 0 tree.statements (start s (allowance - 1)))
-      ((same_statements_from name st su same_st (call_to st 32) (call_to su 32) (same_call_to name st su same_st 32) 0 tree.statements).keeps (start s (allowance - 1)))
+      (((same_statements_from name st su same_st (call_to st 32) (call_to su 32) (same_call_to name st su same_st 32) 0 tree.statements).at (start s (allowance - 1))).leads.later.grown)
 
 -- in a shown state
 pub shown_grows : (s : Shown) (cell : CellParts) (inputs : List (List ℕ × Input)) (allowance : ℕ) → Grown cell s.objects (ran s cell inputs allowance).1.objects
 unfolding ran
 shown_grows s cell inputs allowance =
-    run_grows (record { to = λ c. c; here = cell }) (shown_setting cell inputs) (shown_setting cell inputs) (record { define = λ c n. refl; here = refl; cell = refl; inputs = refl }) cell.«module» allowance s
+    run_grows (record { to = λ c. c; here = cell; locked = [] }) (shown_setting cell inputs) (shown_setting cell inputs) (record { define = λ c n. refl; here = refl; cell = refl; inputs = refl }) cell.«module» allowance s
 
 -- in a machine's state
 numbers_grow : (program : Program) (m : MachineState) (node : ℕ) (inputs : List (List ℕ × Input)) (allowance : ℕ) → Grown node m.state.objects (run_at program m node inputs allowance).1.objects
 unfolding run_at
 numbers_grow program m node inputs allowance =
-    run_grows (record { to = cell_of program; here = node }) (numbered_setting program node inputs) (shown_setting (cell_of program node) inputs) (same_numbers program node inputs) (cell_of program node).«module» allowance m.state
+    run_grows (record { to = cell_of program; here = node; locked = [] }) (numbered_setting program node inputs) (shown_setting (cell_of program node) inputs) (same_numbers program node inputs) (cell_of program node).«module» allowance m.state
 
 module _ (node : ℕ) (f : ℕ → CellParts) where
   made_again : (o : Object ℕ) → IsMade node o → renamed (λ cell. node) (renamed f o) ≡ o

@@ -21,15 +21,13 @@ use Rattle.star_meaning.specs.Builtins.{ByName}
 use Rattle.star_meaning.specs.Values.{has}
 use Rattle.star_meaning.specs.World.{Work, World, acting, distinct, in_block, lock_of, unbound}
 use Rattle.star_meaning.specs.Expressions.{item_value, Callee, Meant, call_function, clause_names, clauses_from, compared, comprehension, dict_turn, display_pairs, input_value, list_turn, loop_over, method_called, named_from, new_key, next_item, optional_value, signed, step_value, store_at, store_each, store_in, store_items, tests_value, truth, values, values_from}
-use Rattle.star_meaning.specs.Renaming.{Names, world_as, outcome_as, reached, Same, SameSteps, SameCallee, SameMeant}
-use Rattle.star_meaning.specs.Growing.{Grown}
-use Rattle.star_meaning.proofs.GrownLemmas.{grown_same}
+use Rattle.star_meaning.specs.Renaming.{Names, under, Same, SameAt, SameSteps, SameCallee, SameMeant}
 use Rattle.star_meaning.proofs.Renamed.{same_then, same_pure, same_fail, same_charge}
 use Rattle.star_meaning.proofs.RenamedComparing.{same_if_then, same_compare, same_key_in}
 use Rattle.star_meaning.proofs.RenamedShowing.{is_true_as, same_items_of, same_new_tuple}
 use Rattle.star_meaning.proofs.RenamedOperators.{same_charged_list, same_store, same_unary, same_unpacked}
 use Rattle.star_meaning.proofs.RenamedMethods.{same_call_method}
-use Rattle.star_meaning.proofs.RenamedWorld.{same_acting, same_going, same_in_block, same_locking, same_next, same_operate, same_reading, same_turns}
+use Rattle.star_meaning.proofs.RenamedWorld.{same_acting, same_acting_at, same_charging, same_failing, same_going, same_in_block, same_locking, same_next, same_operate, same_operate_at, same_reading, same_turns}
 
 -- two lists of one length whose items correspond
 abbrev pub Each : {A B : Type 0} → (A → B → Type 0) → List A → List B → Type 0
@@ -50,6 +48,22 @@ Both R None None = Unit {0}
 Both R (Some x) (Some y) = R x y
 Both R None (Some y) = ⊥
 Both R (Some x) None = ⊥
+
+module _ {C D : Type 0} (name : Names C D) where
+  -- ---- operations of expressions
+
+  same_new_key : (done : List (Key × Value)) (k : Value) → Same name (new_key done k) (new_key done k)
+  same_new_key done k = same_then name _ _ _ _ (same_key_in name k) (λ key. same_if_then name (is_some (dict_get done key)) _ _ _ _ (same_fail name failure.RepeatedKey) (same_pure name key))
+
+  pub same_input_value : (i : Input) → Same name (input_value i) (input_value i)
+  same_input_value input.None = same_pure name _
+  same_input_value (input.Bool b) = same_pure name _
+  same_input_value (input.Int z) = same_pure name _
+  same_input_value (input.Text points) = same_pure name _
+  same_input_value (input.List items) = same_charged_list name (map item_value items)
+
+  pub same_compared : (o : CompareOp) (x y : Value) → Same name (compared o x y) (compared o x y)
+  same_compared o x y = same_then name _ _ _ _ (same_compare name o x y) (λ b. same_pure name _)
 
 module _ {C D : Type 0} (name : Names C D) where
   abbrev pub Alike : Meant C → Meant D → Type 0
@@ -102,18 +116,15 @@ module _ {C D : Type 0} (name : Names C D) where
   same_choose false p x q y h k = k
 
   pub same_tests_value : (ms : List (Meant C)) (ns : List (Meant D)) → Each Alike ms ns → SameSteps name (tests_value ms) (tests_value ns)
-  same_tests_value [] [] h = same_next name _ _ _ _ (same_values [] [] tt) (λ vs. same_operate name _ _ (same_new_tuple name vs))
+  same_tests_value [] [] h = same_next name _ _ _ _ (same_values [] [] tt) (λ vs. same_operate name _ _ (λ locked. same_new_tuple (under name locked) vs))
   same_tests_value (m ∷ []) (n ∷ []) h = h.0.value
-  same_tests_value (m ∷ l ∷ ms) (n ∷ o ∷ ns) h = same_next name _ _ _ _ (same_values (m ∷ l ∷ ms) (n ∷ o ∷ ns) h) (λ vs. same_operate name _ _ (same_new_tuple name vs))
+  same_tests_value (m ∷ l ∷ ms) (n ∷ o ∷ ns) h = same_next name _ _ _ _ (same_values (m ∷ l ∷ ms) (n ∷ o ∷ ns) h) (λ vs. same_operate name _ _ (λ locked. same_new_tuple (under name locked) vs))
   same_tests_value [] (n ∷ ns) h = absurd h
   same_tests_value (m ∷ ms) [] h = absurd h
   same_tests_value (m ∷ []) (n ∷ o ∷ ns) h = absurd h.1
   same_tests_value (m ∷ l ∷ ms) (n ∷ []) h = absurd h.1
 
   -- ---- displays
-
-  same_new_key : (done : List (Key × Value)) (k : Value) → Same name (new_key done k) (new_key done k)
-  same_new_key done k = same_then name _ _ _ _ (same_key_in name k) (λ key. same_if_then name (is_some (dict_get done key)) _ _ _ _ (same_fail name failure.RepeatedKey) (same_pure name key))
 
   pub record AlikePair (x : Pair (Meant C)) (y : Pair (Meant D)) : Type 0 where
     pub key_is : Alike x.key y.key
@@ -122,8 +133,8 @@ module _ {C D : Type 0} (name : Names C D) where
   pub same_display_pairs : (done : List (Key × Value)) (xs : List (Pair (Meant C))) (ys : List (Pair (Meant D))) → Each AlikePair xs ys → SameSteps name (display_pairs done xs) (display_pairs done ys)
   same_display_pairs done [] [] h = same_going name done
   same_display_pairs done (x ∷ xs) (y ∷ ys) h =
-      same_next name _ _ _ _ h.0.key_is.value (λ k. same_next name _ _ _ _ h.0.value_is.value (λ v. same_next name _ _ _ _ (same_acting name _ _ (same_new_key done k)) (λ key.
-      same_next name _ _ _ _ (same_acting name _ _ (same_charge name (weight k))) (λ _. same_display_pairs (dict_put done key v) xs ys h.1))))
+      same_next name _ _ _ _ h.0.key_is.value (λ k. same_next name _ _ _ _ h.0.value_is.value (λ v. same_next name _ _ _ _ (same_acting name _ _ (λ locked. same_new_key (under name locked) done k)) (λ key.
+      same_next name _ _ _ _ (same_charging name (weight k)) (λ _. same_display_pairs (dict_put done key v) xs ys h.1))))
   same_display_pairs done [] (y ∷ ys) h = absurd h
   same_display_pairs done (x ∷ xs) [] h = absurd h
 
@@ -164,7 +175,7 @@ module _ {C D : Type 0} (name : Names C D) where
   unfolding store_items
   same_store_items ms ns h v =
       subst (λ k. SameSteps name (acting (unpacked (length ms) v) >>= store_each ms) (acting (unpacked k v) >>= store_each ns)) (sym (each_length Alike ms ns h))
-      (same_next name _ _ _ _ (same_acting name _ _ (same_unpacked name (length ms) v)) (same_store_each ms ns h))
+      (same_next name _ _ _ _ (same_acting name _ _ (λ locked. same_unpacked (under name locked) (length ms) v)) (same_store_each ms ns h))
 
   pub same_store_in : (ms : List (Meant C)) (ns : List (Meant D)) → Each Alike ms ns → (v : Value) → SameSteps name (store_in ms v) (store_in ns v)
   same_store_in [] [] h v = same_store_items [] [] tt v
@@ -177,11 +188,11 @@ module _ {C D : Type 0} (name : Names C D) where
 
   pub same_next_item : (ms : List (Meant C)) (ns : List (Meant D)) → Each Alike ms ns → (x : Value) → SameSteps name (next_item ms x) (next_item ns x)
   unfolding next_item
-  same_next_item ms ns h x = same_next name _ _ _ _ (same_acting name _ _ (same_charge name (weight x))) (λ _. same_store_in ms ns h x)
+  same_next_item ms ns h x = same_next name _ _ _ _ (same_charging name (weight x)) (λ _. same_store_in ms ns h x)
 
   same_loop_over : {A : Type 0} (f : Value → A → Work C A) (g : Value → A → Work D A) → ((v : Value) (a : A) → SameSteps name (f v a) (g v a)) → (v : Value) (a : A) → SameSteps name (loop_over f v a) (loop_over g v a)
   unfolding loop_over
-  same_loop_over f g h v a = same_next name _ _ _ _ (same_acting name _ _ (same_items_of name v)) (λ items. same_locking name (lock_of v) _ _ (same_turns name f g h items a))
+  same_loop_over f g h v a = same_next name _ _ _ _ (same_acting name _ _ (λ locked. same_items_of (under name locked) v)) (λ items. same_locking name (lock_of v) _ _ (same_turns name f g h items a))
 
   module _ {A : Type 0} (f : A → Work C A) (g : A → Work D A) (h : (a : A) → SameSteps name (f a) (g a)) where
     same_clauses_from : (xs : List (Clause (Meant C))) (ys : List (Clause (Meant D))) → Each AlikeClause xs ys → (a : A) → SameSteps name (clauses_from xs f a) (clauses_from ys g a)
@@ -199,7 +210,7 @@ module _ {C D : Type 0} (name : Names C D) where
     same_comprehension [] [] k a = same_going name a
     same_comprehension (clause.If condition ∷ xs) (clause.If other ∷ ys) k a = same_going name a
     same_comprehension (clause.For targets over ∷ xs) (clause.For others with ∷ ys) k a =
-        same_next name _ _ _ _ k.0.1.value (λ v. same_next name _ _ _ _ (same_acting name _ _ (same_charge name 1)) (λ _.
+        same_next name _ _ _ _ k.0.1.value (λ v. same_next name _ _ _ _ (same_charging name 1) (λ _.
         subst (λ n. SameSteps name (in_block (unbound (distinct (flat_map clause_names (clause.For targets over ∷ xs)))) (loop_over (λ x b. next_item targets x >> clauses_from xs f b) v a))
         (in_block (unbound (distinct n)) (loop_over (λ x b. next_item others x >> clauses_from ys g b) v a))) (sym (names_of_clauses (clause.For targets over ∷ xs) (clause.For others with ∷ ys) k))
         (same_in_block name _ _ _ (same_loop_over _ _ (λ x b. same_next name _ _ _ _ (same_next_item targets others k.0.0 x) (λ _. same_clauses_from xs ys k.1 b)) v a))))
@@ -215,40 +226,26 @@ module _ {C D : Type 0} (name : Names C D) where
   pub same_dict_turn : (k v : Meant C) (l w : Meant D) → Alike k l → Alike v w → (done : List (Key × Value)) → SameSteps name (dict_turn k v done) (dict_turn l w done)
   unfolding dict_turn
   same_dict_turn k v l w h g done =
-      same_next name _ _ _ _ h.value (λ x. same_next name _ _ _ _ g.value (λ y. same_next name _ _ _ _ (same_acting name _ _ (same_key_in name x)) (λ key.
-      same_next name _ _ _ _ (same_acting name _ _ (same_charge name (weight x))) (λ _. same_going name (dict_put done key y)))))
+      same_next name _ _ _ _ h.value (λ x. same_next name _ _ _ _ g.value (λ y. same_next name _ _ _ _ (same_acting name _ _ (λ locked. same_key_in (under name locked) x)) (λ key.
+      same_next name _ _ _ _ (same_charging name (weight x)) (λ _. same_going name (dict_put done key y)))))
 
   -- ---- inputs, calls, signs
 
-  pub same_input_value : (i : Input) → Same name (input_value i) (input_value i)
-  same_input_value input.None = same_pure name _
-  same_input_value (input.Bool b) = same_pure name _
-  same_input_value (input.Int z) = same_pure name _
-  same_input_value (input.Text points) = same_pure name _
-  same_input_value (input.List items) = same_charged_list name (map item_value items)
-
   pub same_call_function : (c : Callee C) (d : Callee D) → SameCallee name c d → (id : ℕ) (vs : List Value) (n : ByName) → SameSteps name (call_function c id vs n) (call_function d id vs n)
-  same_call_function c d h id vs n = record { holds = λ w. called_or (has w.frame.active id) w; keeps = λ w. kept_or (has w.frame.active id) w }
+  same_call_function c d h id vs n = record { at = λ w. let same = called_or (has w.frame.active id) w in record { holds = same.holds; leads = same.leads } }
     where
-      called_or : (b : Bool) (w : World C) → (if b then fail failure.Recursion (world_as name.to w) else d id vs n (world_as name.to w)) ≡ outcome_as (world_as name.to) (if b then fail failure.Recursion w else c id vs n w)
-      called_or true w = refl
-      called_or false w = (h id vs n).holds w
-
-      kept_or : (b : Bool) (w : World C) → Grown name.here w.store.state.objects (reached (if b then fail failure.Recursion w else c id vs n w)).store.state.objects
-      kept_or true w = grown_same name.here w.store.state.objects
-      kept_or false w = (h id vs n).keeps w
+      called_or : (b : Bool) (w : World C) → SameAt name (λ v. if b then fail failure.Recursion v else c id vs n v) (λ v. if b then fail failure.Recursion v else d id vs n v) w
+      called_or true w = (same_failing name failure.Recursion).at w
+      called_or false w = (h id vs n).at w
 
   pub same_method_called : (n : List ℕ) (x : Value) (vs : List Value) (by : ByName) → SameSteps name (method_called n x vs by) (method_called n x vs by)
   unfolding method_called
-  same_method_called n x vs by = record { holds = λ w. (same_operate name _ _ (same_call_method name w.frame.locked n x vs by)).holds w; keeps = λ w. (same_operate name _ _ (same_call_method name w.frame.locked n x vs by)).keeps w }
+  same_method_called n x vs by = record { at = λ w. let same = same_operate_at name _ _ w (same_call_method (under name w.frame.locked) n x vs by) in record { holds = same.holds; leads = same.leads } }
 
   pub same_store_at : (x at v : Value) → SameSteps name (store_at x at v) (store_at x at v)
   unfolding store_at
-  same_store_at x at v = record { holds = λ w. (same_acting name _ _ (same_store name w.frame.locked x at v)).holds w; keeps = λ w. (same_acting name _ _ (same_store name w.frame.locked x at v)).keeps w }
+  same_store_at x at v = record { at = λ w. let same = same_acting_at name _ _ w (same_store (under name w.frame.locked) x at v) in record { holds = same.holds; leads = same.leads } }
 
   pub same_signed : (ss : List UnaryOp) (x : Value) → SameSteps name (signed ss x) (signed ss x)
   same_signed [] x = same_going name x
-  same_signed (s ∷ ss) x = same_next name _ _ _ _ (same_signed ss x) (λ y. same_operate name _ _ (same_unary name s y))
-
-  pub same_compared : (o : CompareOp) (x y : Value) → Same name (compared o x y) (compared o x y)
-  same_compared o x y = same_then name _ _ _ _ (same_compare name o x y) (λ b. same_pure name _)
+  same_signed (s ∷ ss) x = same_next name _ _ _ _ (same_signed ss x) (λ y. same_operate name _ _ (λ locked. same_unary (under name locked) s y))

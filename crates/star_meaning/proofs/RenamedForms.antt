@@ -28,12 +28,12 @@ use Rattle.star_meaning.specs.Steps.{Action, ◌>>=◌, pure, fail, given_or}
 use Rattle.star_meaning.specs.Builtins.{ByName}
 use Rattle.star_meaning.specs.World.{Work, operate, operation, without_first}
 use Rattle.star_meaning.specs.Expressions.{Callee, Meant, Setting, call_written, called, called_at, chained, chosen, front, headed, input_name, input_value, linked, meant, name_of, named_values, naming, parts, place, read_input, step, suffix_value, suffixed, turned}
-use Rattle.star_meaning.specs.Renaming.{Names, Same, SameSteps, SameSetting, SameCallee, SameMeant}
-use Rattle.star_meaning.proofs.Renamed.{same_then, same_given_or, same_charge}
+use Rattle.star_meaning.specs.Renaming.{Names, under, Same, SameSteps, SameSetting, SameCallee, SameMeant}
+use Rattle.star_meaning.proofs.Renamed.{same_then, same_given_or}
 use Rattle.star_meaning.proofs.RenamedShowing.{same_new_dict, same_new_list, same_new_tuple}
 use Rattle.star_meaning.proofs.RenamedOperators.{same_binary, same_index, same_slice}
 use Rattle.star_meaning.proofs.RenamedBuiltins.{same_call_builtin}
-use Rattle.star_meaning.proofs.RenamedWorld.{same_acting, same_bind, same_failing, same_going, same_look_up, same_next, same_operate, same_operation, same_write}
+use Rattle.star_meaning.proofs.RenamedWorld.{same_acting, same_bind, same_charging, same_failing, same_going, same_look_up, same_next, same_operate, same_operation, same_write}
 use Rattle.star_meaning.proofs.RenamedExpressions.{Each, Both, AlikeNamed, AlikePair, AlikeClause, Alike, same_call_function, same_choose, same_compared, same_comprehension, same_dict_turn, same_display_pairs, same_input_value, same_list_turn, same_method_called, same_named_from, same_optional_value, same_signed, same_step_value, same_store_at, same_store_items, same_truth, same_values}
 
 module _ {C D : Type 0} (name : Names C D) (st : Setting C) (su : Setting D) (same_st : SameSetting name st su) (c : Callee C) (d : Callee D) (same_callee : SameCallee name c d) where
@@ -44,14 +44,14 @@ module _ {C D : Type 0} (name : Names C D) (st : Setting C) (su : Setting D) (sa
   unfolding read_input
   same_read_input n =
       subst (λ all. SameSteps name (operate (given_or failure.NoInput (inputs.value_of st.inputs n) >>= input_value)) (operate (given_or failure.NoInput (inputs.value_of all n) >>= input_value))) (sym same_st.inputs)
-      (same_operate name _ _ (same_then name _ _ _ _ (same_given_or name failure.NoInput (inputs.value_of st.inputs n)) (same_input_value name)))
+      (same_operate name _ _ (λ locked. same_then (under name locked) _ _ _ _ (same_given_or (under name locked) failure.NoInput (inputs.value_of st.inputs n)) (same_input_value (under name locked))))
 
-  same_written : (p : Action C (Value × List ℕ)) (q : Action D (Value × List ℕ)) → Same name p q → SameSteps name (call_written p) (call_written q)
+  same_written : (p : Action C (Value × List ℕ)) (q : Action D (Value × List ℕ)) → ((locked : List ℕ) → Same (under name locked) p q) → SameSteps name (call_written p) (call_written q)
   same_written p q h = same_next name _ _ _ _ (same_acting name p q h) (λ a. same_next name _ _ _ _ (same_write name a.1) (λ _. same_going name a.0))
 
   same_called_at : (f : Value-F Value) (vs : List Value) (n : ByName) → SameSteps name (called_at st c f vs n) (called_at su d f vs n)
   same_called_at (Value-F.Function id) vs n = same_call_function name c d same_callee id vs n
-  same_called_at (Value-F.Builtin which) vs n = same_written _ _ (same_call_builtin name (naming st) (naming su) naming_as which vs n)
+  same_called_at (Value-F.Builtin which) vs n = same_written _ _ (λ locked. same_call_builtin (under name locked) (naming st) (naming su) naming_as which vs n)
   same_called_at _ vs n = same_failing name failure.WrongType
 
   same_called : (f : Value) (vs : List Value) (n : ByName) → SameSteps name (called st c f vs n) (called su d f vs n)
@@ -63,11 +63,11 @@ module _ {C D : Type 0} (name : Names C D) (st : Setting C) (su : Setting D) (sa
   same_linked : (o : ChainOp) (x : Value) (p : Work C Value) (q : Work D Value) (f : Value → Work C Value) (g : Value → Work D Value)
       → SameSteps name p q → ((v : Value) → SameSteps name (f v) (g v)) → SameSteps name (linked st c o x p f) (linked su d o x q g)
   same_linked chain.Or x p q f g h k =
-      same_next name _ _ _ _ (same_truth name x) (λ t. same_choose name t _ _ _ _ (same_going name x) (same_next name _ _ _ _ (same_next name _ _ _ _ (same_acting name _ _ (same_charge name 1)) (λ _. h)) k))
+      same_next name _ _ _ _ (same_truth name x) (λ t. same_choose name t _ _ _ _ (same_going name x) (same_next name _ _ _ _ (same_next name _ _ _ _ (same_charging name 1) (λ _. h)) k))
   same_linked chain.And x p q f g h k =
-      same_next name _ _ _ _ (same_truth name x) (λ t. same_choose name t _ _ _ _ (same_next name _ _ _ _ (same_next name _ _ _ _ (same_acting name _ _ (same_charge name 1)) (λ _. h)) k) (same_going name x))
+      same_next name _ _ _ _ (same_truth name x) (λ t. same_choose name t _ _ _ _ (same_next name _ _ _ _ (same_next name _ _ _ _ (same_charging name 1) (λ _. h)) k) (same_going name x))
   same_linked (chain.Binary op) x p q f g h k =
-      same_next name _ _ _ _ (same_next name _ _ _ _ h (λ y. same_operate name _ _ (same_binary name (naming st) (naming su) naming_as op x y))) k
+      same_next name _ _ _ _ (same_next name _ _ _ _ h (λ y. same_operate name _ _ (λ locked. same_binary (under name locked) (naming st) (naming su) naming_as op x y))) k
 
   pub record AlikeLink (x : Link (Meant C)) (y : Link (Meant D)) : Type 0 where
     pub op_is : y.op ≡ x.op
@@ -98,10 +98,10 @@ module _ {C D : Type 0} (name : Names C D) (st : Setting C) (su : Setting D) (sa
   same_named_values xs ys h = same_named_from name [] xs ys h
 
   same_suffix_value : (s : Suffix (Meant C)) (t : Suffix (Meant D)) → AlikeSuffix s t → (x : Value) → SameSteps name (suffix_value st c s x) (suffix_value su d t x)
-  same_suffix_value (suffix.Index at) (suffix.Index to) h x = same_next name _ _ _ _ h.value (λ i. same_operate name _ _ (same_index name x i))
+  same_suffix_value (suffix.Index at) (suffix.Index to) h x = same_next name _ _ _ _ h.value (λ i. same_operate name _ _ (λ locked. same_index (under name locked) x i))
   same_suffix_value (suffix.Slice i j k) (suffix.Slice a b e) h x =
       same_next name _ _ _ _ (same_optional_value name i a h.0) (λ u. same_next name _ _ _ _ (same_optional_value name j b h.1) (λ v. same_next name _ _ _ _ (same_step_value name k e h.2) (λ w.
-      same_operate name _ _ (same_slice name x (record { start = u; stop = v; step = w })))))
+      same_operate name _ _ (λ locked. same_slice (under name locked) x (record { start = u; stop = v; step = w })))))
   same_suffix_value (suffix.Call g) (suffix.Call f) h x =
       same_next name _ _ _ _ (same_values name g.positional f.positional h.0) (λ vs. same_next name _ _ _ _ (same_named_values g.named f.named h.1) (λ n. same_called x vs n))
   same_suffix_value (suffix.Method n g) (suffix.Method m f) h x =
@@ -248,7 +248,7 @@ module _ {C D : Type 0} (name : Names C D) (st : Setting C) (su : Setting D) (sa
 
   tuple_form : (ms : List (Meant C)) (ns : List (Meant D)) (b : Bool) → Each (Alike name) ms ns → Forms (Expr-F.Tuple ms b) (Expr-F.Tuple ns b)
   tuple_form ms ns b h = record {
-    value = same_next name _ _ _ _ (same_values name ms ns h) (λ vs. same_operate name _ _ (same_new_tuple name vs));
+    value = same_next name _ _ _ _ (same_values name ms ns h) (λ vs. same_operate name _ _ (λ locked. same_new_tuple (under name locked) vs));
     store = same_store_items name ms ns h;
     update = λ f g k. never;
     names = names_alike ms ns h;
@@ -258,7 +258,7 @@ module _ {C D : Type 0} (name : Names C D) (st : Setting C) (su : Setting D) (sa
 
   list_form : (ms : List (Meant C)) (ns : List (Meant D)) (b : Bool) → Each (Alike name) ms ns → Forms (Expr-F.List ms b) (Expr-F.List ns b)
   list_form ms ns b h = record {
-    value = same_next name _ _ _ _ (same_values name ms ns h) (λ vs. same_operate name _ _ (same_new_list name vs));
+    value = same_next name _ _ _ _ (same_values name ms ns h) (λ vs. same_operate name _ _ (λ locked. same_new_list (under name locked) vs));
     store = same_store_items name ms ns h;
     update = λ f g k. never;
     names = names_alike ms ns h;
@@ -268,7 +268,7 @@ module _ {C D : Type 0} (name : Names C D) (st : Setting C) (su : Setting D) (sa
 
   list_over_form : (m : Meant C) (n : Meant D) (xs : List (Clause (Meant C))) (ys : List (Clause (Meant D))) → Alike name m n → Each (AlikeClause name) xs ys → Forms (Expr-F.ListOver m xs) (Expr-F.ListOver n ys)
   list_over_form m n xs ys h k = record {
-    value = same_next name _ _ _ _ (same_comprehension name _ _ (same_list_turn name m n h) xs ys k []) (λ vs. same_acting name _ _ (same_new_list name vs));
+    value = same_next name _ _ _ _ (same_comprehension name _ _ (same_list_turn name m n h) xs ys k []) (λ vs. same_acting name _ _ (λ locked. same_new_list (under name locked) vs));
     store = λ v. never;
     update = λ f g l. never;
     names = refl;
@@ -278,7 +278,7 @@ module _ {C D : Type 0} (name : Names C D) (st : Setting C) (su : Setting D) (sa
 
   dict_form : (xs : List (Pair (Meant C))) (ys : List (Pair (Meant D))) (b : Bool) → Each (AlikePair name) xs ys → Forms (Expr-F.Dict xs b) (Expr-F.Dict ys b)
   dict_form xs ys b h = record {
-    value = same_next name _ _ _ _ (same_display_pairs name [] xs ys h) (λ done. same_operate name _ _ (same_new_dict name done));
+    value = same_next name _ _ _ _ (same_display_pairs name [] xs ys h) (λ done. same_operate name _ _ (λ locked. same_new_dict (under name locked) done));
     store = λ v. never;
     update = λ f g k. never;
     names = refl;
@@ -289,7 +289,7 @@ module _ {C D : Type 0} (name : Names C D) (st : Setting C) (su : Setting D) (sa
   dict_over_form : (k v : Meant C) (l w : Meant D) (xs : List (Clause (Meant C))) (ys : List (Clause (Meant D))) → Alike name k l → Alike name v w → Each (AlikeClause name) xs ys
       → Forms (Expr-F.DictOver k v xs) (Expr-F.DictOver l w ys)
   dict_over_form k v l w xs ys h g e = record {
-    value = same_next name _ _ _ _ (same_comprehension name _ _ (same_dict_turn name k v l w h g) xs ys e []) (λ done. same_acting name _ _ (same_new_dict name done));
+    value = same_next name _ _ _ _ (same_comprehension name _ _ (same_dict_turn name k v l w h g) xs ys e []) (λ done. same_acting name _ _ (λ locked. same_new_dict (under name locked) done));
     store = λ x. never;
     update = λ f x y. never;
     names = refl;
@@ -301,7 +301,7 @@ module _ {C D : Type 0} (name : Names C D) (st : Setting C) (su : Setting D) (sa
   primary_form m n xs ys h k = let front_is = front_alike m n xs ys h k in record {
     value = same_next name _ _ _ _ front_is.0 (same_suffixed (front st c m xs).1 (front su d n ys).1 front_is.1);
     store = λ v. same_next name _ _ _ _ (same_place m n xs ys h k) (λ at. same_store_at name at.0 at.1 v);
-    update = λ f g l. same_next name _ _ _ _ (same_place m n xs ys h k) (λ at. same_next name _ _ _ _ (same_operate name _ _ (same_index name at.0 at.1)) (λ old.
+    update = λ f g l. same_next name _ _ _ _ (same_place m n xs ys h k) (λ at. same_next name _ _ _ _ (same_operate name _ _ (λ locked. same_index (under name locked) at.0 at.1)) (λ old.
         same_next name _ _ _ _ (l old) (λ new. same_store_at name at.0 at.1 new)));
     names = refl;
     is_input = refl;
@@ -316,7 +316,7 @@ module _ {C D : Type 0} (name : Names C D) (st : Setting C) (su : Setting D) (sa
 
   compare_form : (a b : Meant C) (x y : Meant D) (o : CompareOp) → Alike name a x → Alike name b y → Forms (Expr-F.Compare a o b) (Expr-F.Compare x o y)
   compare_form a b x y o h k = record {
-    value = same_next name _ _ _ _ h.value (λ u. same_next name _ _ _ _ k.value (λ v. same_operate name _ _ (same_compared name o u v)));
+    value = same_next name _ _ _ _ h.value (λ u. same_next name _ _ _ _ k.value (λ v. same_operate name _ _ (λ locked. same_compared (under name locked) o u v)));
     store = λ v. never;
     update = λ f g l. never;
     names = refl;
@@ -326,7 +326,7 @@ module _ {C D : Type 0} (name : Names C D) (st : Setting C) (su : Setting D) (sa
 
   not_form : (count : ℕ) (m : Meant C) (n : Meant D) → Alike name m n → Forms (Expr-F.Not count m) (Expr-F.Not count n)
   not_form count m n h = record {
-    value = same_next name _ _ _ _ h.value (λ v. same_next name _ _ _ _ (same_acting name _ _ (same_charge name count)) (λ _. same_next name _ _ _ _ (same_truth name v) (λ t. same_going name (value.Bool (turned count t)))));
+    value = same_next name _ _ _ _ h.value (λ v. same_next name _ _ _ _ (same_charging name count) (λ _. same_next name _ _ _ _ (same_truth name v) (λ t. same_going name (value.Bool (turned count t)))));
     store = λ v. never;
     update = λ f g k. never;
     names = refl;
@@ -341,7 +341,7 @@ module _ {C D : Type 0} (name : Names C D) (st : Setting C) (su : Setting D) (sa
   same_chosen : (xs : List (Arm (Meant C))) (ys : List (Arm (Meant D))) (m : Meant C) (n : Meant D) → Each AlikeArm xs ys → Alike name m n → SameSteps name (chosen st c xs m) (chosen su d ys n)
   same_chosen [] [] m n h k = k.value
   same_chosen (x ∷ xs) (y ∷ ys) m n h k =
-      same_next name _ _ _ _ h.0.condition_is.value (λ v. same_next name _ _ _ _ (same_acting name _ _ (same_charge name 1)) (λ _. same_next name _ _ _ _ (same_truth name v) (λ t.
+      same_next name _ _ _ _ h.0.condition_is.value (λ v. same_next name _ _ _ _ (same_charging name 1) (λ _. same_next name _ _ _ _ (same_truth name v) (λ t.
       same_choose name t _ _ _ _ h.0.value_is.value (same_chosen xs ys m n h.1 k))))
   same_chosen [] (y ∷ ys) m n h k = absurd h
   same_chosen (x ∷ xs) [] m n h k = absurd h

@@ -1,5 +1,5 @@
 -- The methods do the same whatever the names of cells.
-use Rattle.std.proofs.Common.{ℕ, negsuc, List, [], ◌∷◌, ◌++◌, map, length, Bool, true, false, ap}
+use Rattle.std.proofs.Common.{◌≡◌, ℕ, negsuc, List, [], ◌∷◌, ◌++◌, map, length, Bool, true, false, ap}
 use Rattle.std.specs.Prelude.{Option, Some, None, option_map, if◌then◌else◌, codes, bytes_eq, unwrap_or}
 use Rattle.std.specs.List.{insert, remove}
 use Rattle.star_value.specs.declared.failure.Failure.TheVariants as failure
@@ -11,14 +11,14 @@ use Rattle.star_value.specs.Texts as texts
 use Rattle.star_value.specs.Weight.{weight}
 use Rattle.star_meaning.specs.State.{dict, dict_get, dict_put, dict_without}
 use Rattle.star_meaning.specs.Steps.{Action, ◌>>=◌, given_or, read}
-use Rattle.star_meaning.specs.Values.{is_empty, key_values, named_in, place_of}
+use Rattle.star_meaning.specs.Values.{has, is_empty, key_values, named_in, place_of}
 use Rattle.star_meaning.specs.Builtins.{ByName, unnamed}
 use Rattle.star_meaning.specs.Methods.{ObjectMethod, TextMethod, append, as_set, call_method, change_list, clear_dict, clear_list, dict_at, dict_methods, extend_by, find, found_or, get, index_of, insert_in, insert_place, items_of_dict, join, keys_of, list_methods, method_at, not_empty, pair_rows, pair_values, pieces, place_in, pop_item, pop_key, put_all, put_if_absent, remove_item, replace, set_default, split, split_by, strip_ends, tested_with, text_methods, update, values_of, walk_texts, with_none, with_two}
 use Rattle.star_meaning.specs.Renaming.{Names, Same}
 use Rattle.star_meaning.proofs.Renamed.{same_then, same_pure, same_fail, same_given_or, same_charge, same_read, dict_as}
 use Rattle.star_meaning.proofs.RenamedComparing.{same_if_then, same_key_in, same_list, same_dict, same_search_in}
 use Rattle.star_meaning.proofs.RenamedShowing.{same_items_of}
-use Rattle.star_meaning.proofs.RenamedOperators.{same_charged_list, same_check_unlocked, same_dict_change, same_extend, same_item_at, same_list_change}
+use Rattle.star_meaning.proofs.RenamedOperators.{same_charged_list, same_dict_change, same_extend, same_item_at, same_list_change, same_unlocked}
 use Rattle.star_meaning.proofs.RenamedBuiltins.{same_as_int, same_as_int_or, same_as_text, same_list_of_tuples, same_unnamed, same_with_one, same_with_one_or_two, same_with_optional}
 
 module _ {C D : Type 0} (name : Names C D) where
@@ -33,38 +33,38 @@ module _ {C D : Type 0} (name : Names C D) where
   same_with_two f g h (x ∷ y ∷ z ∷ vs) = same_fail name _
 
   abbrev SameMethod : ObjectMethod C → ObjectMethod D → Type 0
-  SameMethod m n = (locked : List ℕ) (id : ℕ) (vs : List Value) → Same name (m locked id vs) (n locked id vs)
+  SameMethod m n = (id : ℕ) (vs : List Value) → Same name (m name.locked id vs) (n name.locked id vs)
 
-  same_change_list : (id : ℕ) (by : List Value → List Value) → Same name (change_list id by) (change_list id by)
-  same_change_list id by = same_then name _ _ _ _ (same_list_change name id by) (λ _. same_pure name value.None)
+  same_change_list : (id : ℕ) → has name.locked id ≡ false → (by : List Value → List Value) → Same name (change_list id by) (change_list id by)
+  same_change_list id free by = same_then name _ _ _ _ (same_list_change name id free by) (λ _. same_pure name value.None)
 
   same_append : SameMethod append append
-  same_append locked id vs = same_with_one name _ _ (λ x. same_then name _ _ _ _ (same_check_unlocked name locked id) (λ _. same_change_list id (λ items. items ++ x ∷ []))) vs
+  same_append id vs = same_with_one name _ _ (λ x. same_unlocked name id _ _ (λ free. same_change_list id free (λ items. items ++ x ∷ []))) vs
 
   same_clear_list : SameMethod clear_list clear_list
-  same_clear_list locked id vs = same_with_none _ _ (same_then name _ _ _ _ (same_check_unlocked name locked id) (λ _. same_change_list id (λ items. []))) vs
+  same_clear_list id vs = same_with_none _ _ (same_unlocked name id _ _ (λ free. same_change_list id free (λ items. []))) vs
 
   same_extend_by : SameMethod extend_by extend_by
-  same_extend_by locked id vs = same_with_one name _ _ (λ x. same_then name _ _ _ _ (same_extend name locked id x) (λ _. same_pure name _)) vs
+  same_extend_by id vs = same_with_one name _ _ (λ x. same_then name _ _ _ _ (same_extend name id x) (λ _. same_pure name _)) vs
 
   same_insert_in : SameMethod insert_in insert_in
-  same_insert_in locked id vs =
-      same_with_two _ _ (λ i x. same_then name _ _ _ _ (same_as_int name i) (λ z. same_then name _ _ _ _ (same_check_unlocked name locked id) (λ _. same_change_list id (λ items. insert items (insert_place z (length items)) x)))) vs
+  same_insert_in id vs =
+      same_with_two _ _ (λ i x. same_then name _ _ _ _ (same_as_int name i) (λ z. same_unlocked name id _ _ (λ free. same_change_list id free (λ items. insert items (insert_place z (length items)) x)))) vs
 
   same_pop_item : SameMethod pop_item pop_item
-  same_pop_item locked id vs =
-      same_with_optional name _ _ (λ i. same_then name _ _ _ _ (same_as_int_or name (negsuc 0) i) (λ z. same_then name _ _ _ _ (same_check_unlocked name locked id) (λ _. same_then name _ _ _ _ (same_list name id) (λ items.
-      same_then name _ _ _ _ (same_item_at name items z) (λ x. same_then name _ _ _ _ (same_list_change name id (λ _. remove items (unwrap_or (place_of z (length items)) 0))) (λ _. same_pure name x)))))) vs
+  same_pop_item id vs =
+      same_with_optional name _ _ (λ i. same_then name _ _ _ _ (same_as_int_or name (negsuc 0) i) (λ z. same_unlocked name id _ _ (λ free. same_then name _ _ _ _ (same_list name id) (λ items.
+      same_then name _ _ _ _ (same_item_at name items z) (λ x. same_then name _ _ _ _ (same_list_change name id free (λ _. remove items (unwrap_or (place_of z (length items)) 0))) (λ _. same_pure name x)))))) vs
 
   same_place_in : (id : ℕ) (x : Value) → Same name (place_in id x) (place_in id x)
   same_place_in id x = same_then name _ _ _ _ (same_list name id) (λ items. same_then name _ _ _ _ (same_search_in name x items) (same_given_or name failure.NoElement))
 
   same_remove_item : SameMethod remove_item remove_item
-  same_remove_item locked id vs =
-      same_with_one name _ _ (λ x. same_then name _ _ _ _ (same_check_unlocked name locked id) (λ _. same_then name _ _ _ _ (same_place_in id x) (λ place. same_change_list id (λ items. remove items place)))) vs
+  same_remove_item id vs =
+      same_with_one name _ _ (λ x. same_unlocked name id _ _ (λ free. same_then name _ _ _ _ (same_place_in id x) (λ place. same_change_list id free (λ items. remove items place)))) vs
 
   same_index_of : SameMethod index_of index_of
-  same_index_of locked id vs = same_with_one name _ _ (λ x. same_then name _ _ _ _ (same_place_in id x) (λ place. same_pure name _)) vs
+  same_index_of id vs = same_with_one name _ _ (λ x. same_then name _ _ _ _ (same_place_in id x) (λ place. same_pure name _)) vs
 
   -- ---- dicts
 
@@ -72,7 +72,7 @@ module _ {C D : Type 0} (name : Names C D) where
   same_lookup id key = same_read name _ _ (λ s. ap (λ pairs. dict_get pairs key) (dict_as name.to s id))
 
   same_get : SameMethod get get
-  same_get locked id vs =
+  same_get id vs =
       same_with_one_or_two name _ _ (λ k d. same_then name _ _ _ _ (same_key_in name k) (λ key. same_then name _ _ _ _ (same_charge name (weight k)) (λ _.
       same_read name (λ s. unwrap_or (dict_get (dict s id) key) (unwrap_or d value.None)) (λ s. unwrap_or (dict_get (dict s id) key) (unwrap_or d value.None)) (λ s. ap (λ pairs. unwrap_or (dict_get pairs key) (unwrap_or d value.None)) (dict_as name.to s id))))) vs
 
@@ -81,40 +81,40 @@ module _ {C D : Type 0} (name : Names C D) where
   same_found_or None d = same_given_or name _ _
 
   same_pop_key : SameMethod pop_key pop_key
-  same_pop_key locked id vs =
-      same_with_one_or_two name _ _ (λ k d. same_then name _ _ _ _ (same_key_in name k) (λ key. same_then name _ _ _ _ (same_check_unlocked name locked id) (λ _. same_then name _ _ _ _ (same_lookup id key) (λ found.
-      same_then name _ _ _ _ (same_found_or found d) (λ v. same_then name _ _ _ _ (same_charge name (weight k)) (λ _. same_then name _ _ _ _ (same_dict_change name id (λ pairs. dict_without pairs key)) (λ _. same_pure name v))))))) vs
+  same_pop_key id vs =
+      same_with_one_or_two name _ _ (λ k d. same_then name _ _ _ _ (same_key_in name k) (λ key. same_unlocked name id _ _ (λ free. same_then name _ _ _ _ (same_lookup id key) (λ found.
+      same_then name _ _ _ _ (same_found_or found d) (λ v. same_then name _ _ _ _ (same_charge name (weight k)) (λ _. same_then name _ _ _ _ (same_dict_change name id free (λ pairs. dict_without pairs key)) (λ _. same_pure name v))))))) vs
 
-  same_put_if_absent : (id : ℕ) (key : Key) (o : Option Value) (d : Value) → Same name (put_if_absent id key o d) (put_if_absent id key o d)
-  same_put_if_absent id key (Some v) d = same_pure name v
-  same_put_if_absent id key None d = same_then name _ _ _ _ (same_dict_change name id (λ pairs. dict_put pairs key d)) (λ _. same_pure name d)
+  same_put_if_absent : (id : ℕ) → has name.locked id ≡ false → (key : Key) (o : Option Value) (d : Value) → Same name (put_if_absent id key o d) (put_if_absent id key o d)
+  same_put_if_absent id free key (Some v) d = same_pure name v
+  same_put_if_absent id free key None d = same_then name _ _ _ _ (same_dict_change name id free (λ pairs. dict_put pairs key d)) (λ _. same_pure name d)
 
   same_set_default : SameMethod set_default set_default
-  same_set_default locked id vs =
-      same_with_one_or_two name _ _ (λ k d. same_then name _ _ _ _ (same_key_in name k) (λ key. same_then name _ _ _ _ (same_check_unlocked name locked id) (λ _. same_then name _ _ _ _ (same_charge name (weight k)) (λ _.
-      same_then name _ _ _ _ (same_lookup id key) (λ found. same_put_if_absent id key found (unwrap_or d value.None)))))) vs
+  same_set_default id vs =
+      same_with_one_or_two name _ _ (λ k d. same_then name _ _ _ _ (same_key_in name k) (λ key. same_unlocked name id _ _ (λ free. same_then name _ _ _ _ (same_charge name (weight k)) (λ _.
+      same_then name _ _ _ _ (same_lookup id key) (λ found. same_put_if_absent id free key found (unwrap_or d value.None)))))) vs
 
   same_keys_of : SameMethod keys_of keys_of
-  same_keys_of locked id vs = same_with_none _ _ (same_then name _ _ _ _ (same_read name (λ s. key_values (dict s id)) (λ s. key_values (dict s id)) (λ s. ap key_values (dict_as name.to s id))) (same_charged_list name)) vs
+  same_keys_of id vs = same_with_none _ _ (same_then name _ _ _ _ (same_read name (λ s. key_values (dict s id)) (λ s. key_values (dict s id)) (λ s. ap key_values (dict_as name.to s id))) (same_charged_list name)) vs
 
   same_values_of : SameMethod values_of values_of
-  same_values_of locked id vs = same_with_none _ _ (same_then name _ _ _ _ (same_read name (λ s. pair_values (dict s id)) (λ s. pair_values (dict s id)) (λ s. ap pair_values (dict_as name.to s id))) (same_charged_list name)) vs
+  same_values_of id vs = same_with_none _ _ (same_then name _ _ _ _ (same_read name (λ s. pair_values (dict s id)) (λ s. pair_values (dict s id)) (λ s. ap pair_values (dict_as name.to s id))) (same_charged_list name)) vs
 
   same_items_of_dict : SameMethod items_of_dict items_of_dict
-  same_items_of_dict locked id vs = same_with_none _ _ (same_then name _ _ _ _ (same_read name (λ s. pair_rows (dict s id)) (λ s. pair_rows (dict s id)) (λ s. ap pair_rows (dict_as name.to s id))) (same_list_of_tuples name)) vs
+  same_items_of_dict id vs = same_with_none _ _ (same_then name _ _ _ _ (same_read name (λ s. pair_rows (dict s id)) (λ s. pair_rows (dict s id)) (λ s. ap pair_rows (dict_as name.to s id))) (same_list_of_tuples name)) vs
 
   same_dict_at : (x : Value-F Value) → Same name (dict_at x) (dict_at x)
   same_dict_at (Value-F.Dict id) = same_dict name id
   same_dict_at _ = same_fail name _
 
   same_update : SameMethod update update
-  same_update locked id vs =
-      same_with_one name _ _ (λ d. same_then name _ _ _ _ (same_dict_at (out-Value d)) (λ more. same_then name _ _ _ _ (same_check_unlocked name locked id) (λ _. same_then name _ _ _ _ (same_charge name _) (λ _.
-      same_then name _ _ _ _ (same_dict_change name id (λ pairs. put_all pairs more)) (λ _. same_pure name value.None))))) vs
+  same_update id vs =
+      same_with_one name _ _ (λ d. same_then name _ _ _ _ (same_dict_at (out-Value d)) (λ more. same_unlocked name id _ _ (λ free. same_then name _ _ _ _ (same_charge name _) (λ _.
+      same_then name _ _ _ _ (same_dict_change name id free (λ pairs. put_all pairs more)) (λ _. same_pure name value.None))))) vs
 
   same_clear_dict : SameMethod clear_dict clear_dict
-  same_clear_dict locked id vs =
-      same_with_none _ _ (same_then name _ _ _ _ (same_then name _ _ _ _ (same_check_unlocked name locked id) (λ _. same_dict_change name id (λ _. []))) (λ _. same_pure name _)) vs
+  same_clear_dict id vs =
+      same_with_none _ _ (same_then name _ _ _ _ (same_unlocked name id _ _ (λ free. same_dict_change name id free (λ _. []))) (λ _. same_pure name _)) vs
 
   -- ---- texts
 
@@ -194,12 +194,12 @@ module _ {C D : Type 0} (name : Names C D) where
   abbrev SameCall : (List Value → Action C Value) → (List Value → Action D Value) → Type 0
   SameCall f g = (vs : List Value) → Same name (f vs) (g vs)
 
-  object_call : (locked : List ℕ) (id : ℕ) (o : Option (ObjectMethod C)) (p : Option (ObjectMethod D)) → BothHave SameMethod o p
-      → BothHave SameCall (option_map (λ m. m locked id) o) (option_map (λ m. m locked id) p)
-  object_call locked id None None h = tt
-  object_call locked id (Some m) (Some n) h = h locked id
-  object_call locked id None (Some n) h = absurd h
-  object_call locked id (Some m) None h = absurd h
+  object_call : (id : ℕ) (o : Option (ObjectMethod C)) (p : Option (ObjectMethod D)) → BothHave SameMethod o p
+      → BothHave SameCall (option_map (λ m. m name.locked id) o) (option_map (λ m. m name.locked id) p)
+  object_call id None None h = tt
+  object_call id (Some m) (Some n) h = h id
+  object_call id None (Some n) h = absurd h
+  object_call id (Some m) None h = absurd h
 
   text_call : (text : List ℕ) (o : Option (TextMethod C)) (p : Option (TextMethod D)) → BothHave SameTextMethod o p
       → BothHave SameCall (option_map (λ m. m text) o) (option_map (λ m. m text) p)
@@ -208,11 +208,11 @@ module _ {C D : Type 0} (name : Names C D) where
   text_call text None (Some n) h = absurd h
   text_call text (Some m) None h = absurd h
 
-  same_method_at : (locked n : List ℕ) (x : Value-F Value) → BothHave SameCall (method_at locked n x) (method_at locked n x)
-  same_method_at locked n (Value-F.List id) = object_call locked id _ _ (same_list_methods n)
-  same_method_at locked n (Value-F.Dict id) = object_call locked id _ _ (same_dict_methods n)
-  same_method_at locked n (Value-F.Text text) = text_call text _ _ (same_text_methods n)
-  same_method_at locked n _ = tt
+  same_method_at : (n : List ℕ) (x : Value-F Value) → BothHave SameCall (method_at name.locked n x) (method_at name.locked n x)
+  same_method_at n (Value-F.List id) = object_call id _ _ (same_list_methods n)
+  same_method_at n (Value-F.Dict id) = object_call id _ _ (same_dict_methods n)
+  same_method_at n (Value-F.Text text) = text_call text _ _ (same_text_methods n)
+  same_method_at n _ = tt
 
   same_found : (o : Option (List Value → Action C Value)) (p : Option (List Value → Action D Value)) (vs : List Value) (n : ByName) → BothHave SameCall o p
       → Same name (given_or failure.NoMethod o >>= (λ m. unnamed n (m vs))) (given_or failure.NoMethod p >>= (λ m. unnamed n (m vs)))
@@ -221,6 +221,6 @@ module _ {C D : Type 0} (name : Names C D) where
   same_found None (Some g) vs n h = absurd h
   same_found (Some f) None vs n h = absurd h
 
-  pub same_call_method : (locked n : List ℕ) (of : Value) (vs : List Value) (by : ByName) → Same name (call_method locked n of vs by) (call_method locked n of vs by)
+  pub same_call_method : (n : List ℕ) (of : Value) (vs : List Value) (by : ByName) → Same name (call_method name.locked n of vs by) (call_method name.locked n of vs by)
   unfolding call_method
-  same_call_method locked n of vs by = same_found _ _ vs by (same_method_at locked n (out-Value of))
+  same_call_method n of vs by = same_found _ _ vs by (same_method_at n (out-Value of))

@@ -1,8 +1,8 @@
 -- The operators do the same whatever the names of cells.
-use Rattle.std.proofs.Common.{◌≡◌, ℕ, ℤ, pos, List, [], ◌∷◌, ◌++◌, length, ap, ◌∙◌}
+use Rattle.std.proofs.Common.{◌≡◌, ℕ, ℤ, pos, List, [], ◌∷◌, ◌++◌, length, Bool, true, false, refl, ap, ◌∙◌}
 use Rattle.std.specs.Int.{int_bit_and, int_bit_or, int_bit_xor, w128}
 use Rattle.std.specs.List.{repeat}
-use Rattle.std.specs.Prelude.{◌-ℤ◌, Option, slice_set, ◌==◌, not, unwrap_or}
+use Rattle.std.specs.Prelude.{◌-ℤ◌, Option, slice_set, ◌==◌, not, if◌then◌else◌, unwrap_or}
 use Rattle.star_syntax.specs.declared.operator.BinaryOp.{BinaryOp}
 use Rattle.star_syntax.specs.declared.operator.BinaryOp.TheVariants as op
 use Rattle.star_syntax.specs.declared.operator.UnaryOp.{UnaryOp}
@@ -14,13 +14,13 @@ use Rattle.star_value.specs.declared.key.Key.{Key}
 use Rattle.star_value.specs.declared.value.Value.{Value, out-Value}
 use Rattle.star_value.specs.declared.value.Value.TheOpen.{Value-F}
 use Rattle.star_meaning.specs.State.{list, dict, dict_get, dict_put, with_list, with_dict}
-use Rattle.star_meaning.specs.Steps.{Action, change}
+use Rattle.star_meaning.specs.Steps.{Action, change, fail, pure, ◌>>◌}
 use Rattle.star_meaning.specs.Values.{has, integer, times, floor_of, rest_of, is_zero, place_of}
 use Rattle.star_meaning.specs.Showing.{Naming}
 use Rattle.star_meaning.specs.Operators.{bound, add_at, added_in_place, augmented, binary, Bounds, charged_list, check_sliced, check_unlocked, decimals_fit, divided, extend, filled, formatted_parts, index, index_at, is_sliced, item_at, joined_lists, modulo_at, multiply_at, on_ints, put_key, repeated_list, slice, slice_at, stepped, store, store_at, store_item, store_key, taken, unary, unpacked, unpacked_at, value_at_key, values_for, values_taken}
 use Rattle.star_meaning.specs.Renaming.{Names, state_as, Same}
 use Rattle.star_meaning.proofs.Renamed.{same_then, same_pure, same_fail, same_given_or, same_charge, same_read, same_change, list_as, dict_as, with_list_as, with_dict_as}
-use Rattle.star_meaning.proofs.GrownLemmas.{grown_dict, grown_list}
+use Rattle.star_meaning.proofs.LaterLemmas.{later_dict, later_list}
 use Rattle.star_meaning.proofs.RenamedComparing.{same_if_then, same_key_in, same_list}
 use Rattle.star_meaning.proofs.RenamedShowing.{same_items_of, same_joined, same_new_list, same_quoted, same_shown}
 
@@ -110,43 +110,49 @@ module _ {C D : Type 0} (name : Names C D) where
 
   -- ---- changes
 
-  pub same_check_unlocked : (locked : List ℕ) (id : ℕ) → Same name (check_unlocked locked id) (check_unlocked locked id)
+  abbrev unless : {X : Type 0} → Bool → Action X (Unit {0})
+  unless b = if b then fail failure.ChangedWhileIterated else pure tt
+
+  unlocked_if : {A : Type 0} (b : Bool) (p : Action C A) (q : Action D A) → (b ≡ false → Same name p q) → Same name (unless {X = C} b >> p) (unless {X = D} b >> q)
+  unlocked_if true p q h = same_fail name failure.ChangedWhileIterated
+  unlocked_if false p q h = h refl
+
+  -- what is done to a list or dict where it is not iterated over
+  pub same_unlocked : {A : Type 0} (id : ℕ) (p : Action C A) (q : Action D A) → (has name.locked id ≡ false → Same name p q) → Same name (check_unlocked name.locked id >> p) (check_unlocked name.locked id >> q)
   unfolding check_unlocked
-  same_check_unlocked locked id = same_if_then name (has locked id) _ _ _ _ (same_fail name _) (same_pure name _)
+  same_unlocked id p q h = unlocked_if (has name.locked id) p q h
 
   -- other items in a list, or other pairs in a dict, that are made of those there
-  pub same_list_change : (id : ℕ) (by : List Value → List Value) → Same name (change (λ s. with_list s id (by (list s id)))) (change (λ s. with_list s id (by (list s id))))
-  unfolding with_list
-  same_list_change id by = same_change name (λ s. with_list s id (by (list s id))) (λ s. with_list s id (by (list s id))) (λ s. ap (λ items. with_list (state_as name.to s) id (by items)) (list_as name.to s id) ∙ with_list_as name.to s id (by (list s id))) (λ s. grown_list name.here s.objects id (by (list s id)))
+  pub same_list_change : (id : ℕ) → has name.locked id ≡ false → (by : List Value → List Value) → Same name (change (λ s. with_list s id (by (list s id)))) (change (λ s. with_list s id (by (list s id))))
+  same_list_change id free by = same_change name (λ s. with_list s id (by (list s id))) (λ s. with_list s id (by (list s id))) (λ s. ap (λ items. with_list (state_as name.to s) id (by items)) (list_as name.to s id) ∙ with_list_as name.to s id (by (list s id))) (λ s. later_list name.here name.locked s id (by (list s.state id)) free)
 
-  pub same_dict_change : (id : ℕ) (by : List (Key × Value) → List (Key × Value)) → Same name (change (λ s. with_dict s id (by (dict s id)))) (change (λ s. with_dict s id (by (dict s id))))
-  unfolding with_dict
-  same_dict_change id by = same_change name (λ s. with_dict s id (by (dict s id))) (λ s. with_dict s id (by (dict s id))) (λ s. ap (λ pairs. with_dict (state_as name.to s) id (by pairs)) (dict_as name.to s id) ∙ with_dict_as name.to s id (by (dict s id))) (λ s. grown_dict name.here s.objects id (by (dict s id)))
+  pub same_dict_change : (id : ℕ) → has name.locked id ≡ false → (by : List (Key × Value) → List (Key × Value)) → Same name (change (λ s. with_dict s id (by (dict s id)))) (change (λ s. with_dict s id (by (dict s id))))
+  same_dict_change id free by = same_change name (λ s. with_dict s id (by (dict s id))) (λ s. with_dict s id (by (dict s id))) (λ s. ap (λ pairs. with_dict (state_as name.to s) id (by pairs)) (dict_as name.to s id) ∙ with_dict_as name.to s id (by (dict s id))) (λ s. later_dict name.here name.locked s id (by (dict s.state id)) free)
 
-  same_store_item : (locked : List ℕ) (id : ℕ) (z : ℤ) (v : Value) → Same name (store_item locked id z v) (store_item locked id z v)
-  same_store_item locked id z v =
-      same_then name _ _ _ _ (same_check_unlocked locked id) (λ _. same_then name _ _ _ _ (same_list name id) (λ items. same_then name _ _ _ _ (same_given_or name failure.BadIndex (place_of z (length items)))
-      (λ place. same_list_change id (λ _. slice_set items place v))))
+  same_store_item : (id : ℕ) (z : ℤ) (v : Value) → Same name (store_item name.locked id z v) (store_item name.locked id z v)
+  same_store_item id z v =
+      same_unlocked id _ _ (λ free. same_then name _ _ _ _ (same_list name id) (λ items. same_then name _ _ _ _ (same_given_or name failure.BadIndex (place_of z (length items)))
+      (λ place. same_list_change id free (λ _. slice_set items place v))))
 
-  pub same_put_key : (id : ℕ) (at : Value) (key : Key) (v : Value) → Same name (put_key id at key v) (put_key id at key v)
-  same_put_key id at key v = same_then name _ _ _ _ (same_charge name _) (λ _. same_dict_change id (λ pairs. dict_put pairs key v))
+  pub same_put_key : (id : ℕ) → has name.locked id ≡ false → (at : Value) (key : Key) (v : Value) → Same name (put_key id at key v) (put_key id at key v)
+  same_put_key id free at key v = same_then name _ _ _ _ (same_charge name _) (λ _. same_dict_change id free (λ pairs. dict_put pairs key v))
 
-  same_store_key : (locked : List ℕ) (id : ℕ) (at v : Value) → Same name (store_key locked id at v) (store_key locked id at v)
-  same_store_key locked id at v = same_then name _ _ _ _ (same_key_in name at) (λ key. same_then name _ _ _ _ (same_check_unlocked locked id) (λ _. same_put_key id at key v))
+  same_store_key : (id : ℕ) (at v : Value) → Same name (store_key name.locked id at v) (store_key name.locked id at v)
+  same_store_key id at v = same_then name _ _ _ _ (same_key_in name at) (λ key. same_unlocked id _ _ (λ free. same_put_key id free at key v))
 
-  same_store_at : (locked : List ℕ) (x : Value-F Value) (at : Value) (y : Value-F Value) (v : Value) → Same name (store_at locked x at y v) (store_at locked x at y v)
-  same_store_at locked (Value-F.Dict id) at _ v = same_store_key locked id at v
-  same_store_at locked (Value-F.List id) at (Value-F.Int z) v = same_store_item locked id z v
-  same_store_at locked _ at _ v = same_fail name _
+  same_store_at : (x : Value-F Value) (at : Value) (y : Value-F Value) (v : Value) → Same name (store_at name.locked x at y v) (store_at name.locked x at y v)
+  same_store_at (Value-F.Dict id) at _ v = same_store_key id at v
+  same_store_at (Value-F.List id) at (Value-F.Int z) v = same_store_item id z v
+  same_store_at _ at _ v = same_fail name _
 
-  pub same_store : (locked : List ℕ) (x at v : Value) → Same name (store locked x at v) (store locked x at v)
+  pub same_store : (x at v : Value) → Same name (store name.locked x at v) (store name.locked x at v)
   unfolding store
-  same_store locked x at v = same_store_at locked (out-Value x) at (out-Value at) v
+  same_store x at v = same_store_at (out-Value x) at (out-Value at) v
 
-  pub same_extend : (locked : List ℕ) (id : ℕ) (v : Value) → Same name (extend locked id v) (extend locked id v)
+  pub same_extend : (id : ℕ) (v : Value) → Same name (extend name.locked id v) (extend name.locked id v)
   unfolding extend
-  same_extend locked id v =
-      same_then name _ _ _ _ (same_items_of name v) (λ more. same_then name _ _ _ _ (same_check_unlocked locked id) (λ _. same_then name _ _ _ _ (same_charge name _) (λ _. same_list_change id (λ items. items ++ more))))
+  same_extend id v =
+      same_then name _ _ _ _ (same_items_of name v) (λ more. same_unlocked id _ _ (λ free. same_then name _ _ _ _ (same_charge name _) (λ _. same_list_change id free (λ items. items ++ more))))
 
   same_unpacked_at : (x : Value-F Value) → Same name (unpacked_at x) (unpacked_at x)
   same_unpacked_at (Value-F.List id) = same_list name id
@@ -191,25 +197,25 @@ module _ {C D : Type 0} (name : Names C D) where
     same_binary op.Or x y = same_on_ints (λ a b. integer (int_bit_or w128 a b)) (λ a b. integer (int_bit_or w128 a b)) (λ a b. same_integer (int_bit_or w128 a b)) (out-Value x) (out-Value y)
     same_binary op.Xor x y = same_on_ints (λ a b. integer (int_bit_xor w128 a b)) (λ a b. integer (int_bit_xor w128 a b)) (λ a b. same_integer (int_bit_xor w128 a b)) (out-Value x) (out-Value y)
 
-    same_added_in_place : (locked : List ℕ) (x : Value) (u : Value-F Value) (y : Value) → Same name (added_in_place nc locked x u y) (added_in_place nd locked x u y)
-    same_added_in_place locked x (Value-F.List id) y = same_then name _ _ _ _ (same_extend locked id y) (λ _. same_pure name x)
-    same_added_in_place locked x Value-F.None y = same_binary op.Add x y
-    same_added_in_place locked x (Value-F.Bool b) y = same_binary op.Add x y
-    same_added_in_place locked x (Value-F.Int z) y = same_binary op.Add x y
-    same_added_in_place locked x (Value-F.Text points) y = same_binary op.Add x y
-    same_added_in_place locked x (Value-F.Tuple items) y = same_binary op.Add x y
-    same_added_in_place locked x (Value-F.Range r) y = same_binary op.Add x y
-    same_added_in_place locked x (Value-F.Dict id) y = same_binary op.Add x y
-    same_added_in_place locked x (Value-F.Function id) y = same_binary op.Add x y
-    same_added_in_place locked x (Value-F.Builtin which) y = same_binary op.Add x y
+    same_added_in_place : (x : Value) (u : Value-F Value) (y : Value) → Same name (added_in_place nc name.locked x u y) (added_in_place nd name.locked x u y)
+    same_added_in_place x (Value-F.List id) y = same_then name _ _ _ _ (same_extend id y) (λ _. same_pure name x)
+    same_added_in_place x Value-F.None y = same_binary op.Add x y
+    same_added_in_place x (Value-F.Bool b) y = same_binary op.Add x y
+    same_added_in_place x (Value-F.Int z) y = same_binary op.Add x y
+    same_added_in_place x (Value-F.Text points) y = same_binary op.Add x y
+    same_added_in_place x (Value-F.Tuple items) y = same_binary op.Add x y
+    same_added_in_place x (Value-F.Range r) y = same_binary op.Add x y
+    same_added_in_place x (Value-F.Dict id) y = same_binary op.Add x y
+    same_added_in_place x (Value-F.Function id) y = same_binary op.Add x y
+    same_added_in_place x (Value-F.Builtin which) y = same_binary op.Add x y
 
-    pub same_augmented : (locked : List ℕ) (o : BinaryOp) (x y : Value) → Same name (augmented nc locked o x y) (augmented nd locked o x y)
+    pub same_augmented : (o : BinaryOp) (x y : Value) → Same name (augmented nc name.locked o x y) (augmented nd name.locked o x y)
     unfolding augmented
-    same_augmented locked op.Add x y = same_added_in_place locked x (out-Value x) y
-    same_augmented locked op.Sub x y = same_binary op.Sub x y
-    same_augmented locked op.Mul x y = same_binary op.Mul x y
-    same_augmented locked op.Floor x y = same_binary op.Floor x y
-    same_augmented locked op.Mod x y = same_binary op.Mod x y
-    same_augmented locked op.And x y = same_binary op.And x y
-    same_augmented locked op.Or x y = same_binary op.Or x y
-    same_augmented locked op.Xor x y = same_binary op.Xor x y
+    same_augmented op.Add x y = same_added_in_place x (out-Value x) y
+    same_augmented op.Sub x y = same_binary op.Sub x y
+    same_augmented op.Mul x y = same_binary op.Mul x y
+    same_augmented op.Floor x y = same_binary op.Floor x y
+    same_augmented op.Mod x y = same_binary op.Mod x y
+    same_augmented op.And x y = same_binary op.And x y
+    same_augmented op.Or x y = same_binary op.Or x y
+    same_augmented op.Xor x y = same_binary op.Xor x y

@@ -15,7 +15,7 @@ use Rattle.star_meaning.specs.Showing.{Naming, Writing, made, ◌<+>◌, made_af
 use Rattle.star_meaning.specs.Validity.{renamed}
 use Rattle.star_meaning.specs.Renaming.{Names, state_as, store_as, Same}
 use Rattle.star_meaning.proofs.Renamed.{same_then, same_pure, same_fail, same_given_or, same_charge, same_read, list_as, dict_as, with_new_as, next_id_as, get_same}
-use Rattle.star_meaning.proofs.GrownLemmas.{grown_new}
+use Rattle.star_meaning.proofs.LaterLemmas.{later_new}
 use Rattle.star_meaning.proofs.RenamedComparing.{same_if_then, same_list, same_dict}
 
 module _ {C D : Type 0} (name : Names C D) where
@@ -54,18 +54,18 @@ module _ {C D : Type 0} (name : Names C D) where
       ∙ ap (λ t. Went (make (next_id s.state)) (record { state = t; left = s.left })) (with_new_as name.to s.state o)
 
   pub same_new_list : (items : List Value) → Same name (new_list items) (new_list items)
-  unfolding new_list with_new
-  same_new_list items = record { holds = new_same value.List (AList items); keeps = λ s. grown_new name.here s.state.objects (AList items) tt }
+  unfolding new_list
+  same_new_list items = record { holds = new_same value.List (AList items); keeps = λ s. later_new name.here name.locked s (AList items) tt }
 
   pub same_new_dict : (pairs : List (Key × Value)) → Same name (new_dict pairs) (new_dict pairs)
-  unfolding new_dict with_new
-  same_new_dict pairs = record { holds = new_same value.Dict (ADict pairs); keeps = λ s. grown_new name.here s.state.objects (ADict pairs) tt }
+  unfolding new_dict
+  same_new_dict pairs = record { holds = new_same value.Dict (ADict pairs); keeps = λ s. later_new name.here name.locked s (ADict pairs) tt }
 
   pub same_new_function : (number : ℕ) (defaults : List Value) → Same name (new_function name.here number defaults) (new_function (name.to name.here) number defaults)
-  unfolding new_function with_new
+  unfolding new_function
   same_new_function number defaults = record {
     holds = new_same value.Function (AFunction name.here number defaults);
-    keeps = λ s. grown_new name.here s.state.objects (AFunction name.here number defaults) refl;
+    keeps = λ s. later_new name.here name.locked s (AFunction name.here number defaults) refl;
   }
 
   -- ---- written forms

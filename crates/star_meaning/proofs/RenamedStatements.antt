@@ -29,21 +29,21 @@ use Rattle.star_meaning.specs.World.{World, Work, Fault, Course, acting, write, 
 use Rattle.star_meaning.specs.Expressions.{Setting, Callee, meant, naming, tests_value, values}
 use Rattle.star_meaning.specs.Statements.{Doing, Filled, after_turn, all_meant, block_of, body_of, branches_of, call_to, condition_of, default_weight, defined, echo, echo_at, echo_if, else_of, ended, filled, for_turns, go_on, in_sequence, iterated, kind_of, layer_of, line_of, local_block, operator, parameters_of, repeated, result_of, returned, run_body, run_defined, run_filled, run_function, small_of, statement_of, then_on}
 use Rattle.star_meaning.specs.Validity.{renamed}
-use Rattle.star_meaning.specs.Renaming.{Names, world_as, outcome_as, reached, SameSteps, SameSetting, SameCallee, SameMeant}
-use Rattle.star_meaning.specs.Growing.{Grown}
-use Rattle.star_meaning.proofs.Renamed.{same_charge, get_same}
+use Rattle.star_meaning.specs.Renaming.{Names, under, world_as, outcome_as, SameAt, SameSteps, SameSetting, SameCallee, SameMeant}
+use Rattle.star_meaning.specs.Growing.{Leads}
+use Rattle.star_meaning.proofs.Renamed.{get_same}
 use Rattle.star_meaning.proofs.RenamedShowing.{same_items_of, same_joined, same_made, same_new_function, same_quoted}
 use Rattle.star_meaning.proofs.RenamedOperators.{same_augmented}
-use Rattle.star_meaning.proofs.RenamedWorld.{same_acting, same_bind, same_failing, same_going, same_in_function, same_located, same_locking, same_next, same_operate, same_write}
+use Rattle.star_meaning.proofs.RenamedWorld.{same_acting, same_bind, same_charging, same_failing, same_going, same_in_function, same_located, same_locking, same_next, same_operate_at, same_write}
 use Rattle.star_meaning.proofs.RenamedExpressions.{Each, Alike, same_choose, same_next_item, same_store_in, same_tests_value, same_truth, same_values}
 use Rattle.star_meaning.proofs.RenamedForms.{naming_as, same_meant}
 
-grown_ended : {C : Type 0} (here : C) (os : List (Object C)) (o : Outcome (World C) Fault Flow) → Grown here os (reached o).store.state.objects → Grown here os (reached (ended o)).store.state.objects
-grown_ended here os (Went flow.On w) h = h
-grown_ended here os (Went flow.Break w) h = h
-grown_ended here os (Went flow.Continue w) h = h
-grown_ended here os (Went (flow.Return v) w) h = h
-grown_ended here os (Failed fault w) h = h
+leads_ended : {C : Type 0} (here : C) (w : World C) (o : Outcome (World C) Fault Flow) → Leads here w o → Leads here w (ended o)
+leads_ended here w (Went flow.On v) h = record { later = h.later; back = h.back }
+leads_ended here w (Went flow.Break v) h = record { later = h.later; back = h.back }
+leads_ended here w (Went flow.Continue v) h = record { later = h.later; back = h.back }
+leads_ended here w (Went (flow.Return x) v) h = record { later = h.later; back = h.back }
+leads_ended here w (Failed fault v) h = record { later = h.later; back = tt }
 
 module _ {C D : Type 0} (name : Names C D) where
   -- ---- one after another
@@ -88,7 +88,7 @@ module _ {C D : Type 0} (name : Names C D) where
   same_ended (Failed fault w) = refl
 
   same_result_of : (p : Course C Flow) (q : Course D Flow) → SameSteps name p q → SameSteps name (result_of p) (result_of q)
-  same_result_of p q h = record { holds = λ w. ap ended (h.holds w) ∙ same_ended (p w); keeps = λ w. grown_ended name.here w.store.state.objects (p w) (h.keeps w) }
+  same_result_of p q h = record { at = λ w. record { holds = ap ended (h.at w).holds ∙ same_ended (p w); leads = leads_ended name.here w (p w) (h.at w).leads } }
 
   module _ (st : Setting C) (su : Setting D) (same_st : SameSetting name st su) (c : Callee C) (d : Callee D) (same_callee : SameCallee name c d) where
     same_of : (e : Expr) → SameMeant name (meant st c e) (meant su d e)
@@ -105,7 +105,7 @@ module _ {C D : Type 0} (name : Names C D) where
 
     same_written : (v : Value) → SameSteps name (acting (quoted (naming st) v <+> made (10 ∷ [])) >>= write) (acting (quoted (naming su) v <+> made (10 ∷ [])) >>= write)
     same_written v =
-        same_next name _ _ _ _ (same_acting name _ _ (same_joined name _ _ _ _ (same_quoted name (naming st) (naming su) (naming_as name st su same_st c d same_callee) v) (same_made name (10 ∷ [])))) (same_write name)
+        same_next name _ _ _ _ (same_acting name _ _ (λ locked. same_joined (under name locked) _ _ _ _ (same_quoted (under name locked) (naming st) (naming su) (naming_as name st su same_st c d same_callee) v) (same_made (under name locked) (10 ∷ [])))) (same_write name)
 
     same_echo_at : (x : Value-F Value) (v : Value) → SameSteps name (echo_at st c x v) (echo_at su d x v)
     same_echo_at Value-F.None v = same_going name tt
@@ -129,10 +129,8 @@ module _ {C D : Type 0} (name : Names C D) where
     same_returned (e ∷ es) = same_tests (e ∷ es)
 
     same_operator : (o : BinaryOp) (x y : Value) → SameSteps name (operator st c o x y) (operator su d o x y)
-    same_operator o x y = record {
-      holds = λ w. (same_operate name _ _ (same_augmented name (naming st) (naming su) (naming_as name st su same_st c d same_callee) w.frame.locked o x y)).holds w;
-      keeps = λ w. (same_operate name _ _ (same_augmented name (naming st) (naming su) (naming_as name st su same_st c d same_callee) w.frame.locked o x y)).keeps w;
-    }
+    same_operator o x y = record { at = λ w.
+        let same = same_operate_at name _ _ w (same_augmented (under name w.frame.locked) (naming st) (naming su) (naming_as name st su same_st c d same_callee) o x y) in record { holds = same.holds; leads = same.leads } }
 
     same_then_on : {A : Type 0} (p : Work C A) (q : Work D A) → SameSteps name p q → SameSteps name (then_on st c p) (then_on su d q)
     same_then_on p q h = same_next name _ _ _ _ h (λ _. same_going name flow.On)
@@ -149,7 +147,7 @@ module _ {C D : Type 0} (name : Names C D) where
 
     same_small_of : (last : Bool) (s : Small) → SameSteps name (small_of st c last s) (small_of su d last s)
     unfolding small_of
-    same_small_of last s = same_located name s.line _ _ (same_next name _ _ _ _ (same_acting name _ _ (same_charge name 1)) (λ _. same_kind_of last s.kind))
+    same_small_of last s = same_located name s.line _ _ (same_next name _ _ _ _ (same_charging name 1) (λ _. same_kind_of last s.kind))
 
     same_line_of : (last : Bool) (line : Line) → SameSteps name (line_of st c last line) (line_of su d last line)
     same_line_of last line = same_in_sequence _ _ same_small_of last line.smalls
@@ -160,7 +158,7 @@ module _ {C D : Type 0} (name : Names C D) where
     same_condition at e = same_located name at _ _ (same_next name _ _ _ _ (same_of e).value (same_truth name))
 
     same_iterated : (over : List Expr) → SameSteps name (iterated st c over) (iterated su d over)
-    same_iterated over = same_next name _ _ _ _ (same_tests over) (λ v. same_next name _ _ _ _ (same_acting name _ _ (same_items_of name v)) (λ items. same_going name (v, items)))
+    same_iterated over = same_next name _ _ _ _ (same_tests over) (λ v. same_next name _ _ _ _ (same_acting name _ _ (λ locked. same_items_of (under name locked) v)) (λ items. same_going name (v, items)))
 
     same_repeated : (at : ℕ) (targets : List Expr) (p : Course C Flow) (q : Course D Flow) → SameSteps name p q → (over : Value × List Value) → SameSteps name (repeated st c at targets p over) (repeated su d at targets q over)
     unfolding repeated
@@ -184,7 +182,7 @@ module _ {C D : Type 0} (name : Names C D) where
         (subst (λ ns. SameSteps name (defined_by st c x.name x.defaults number) (defined_by su d x.name ns number)) (sym k)
         (subst (λ cell. SameSteps name (defined_in st c st.cell x.name x.defaults number) (defined_in su d cell x.name x.defaults number)) (sym same_st.cell)
         (subst (λ cell. SameSteps name (defined_in st c cell x.name x.defaults number) (defined_in su d (name.to cell) x.name x.defaults number)) (sym same_st.here)
-        (same_next name _ _ _ _ (same_values name _ _ (defaults_same x.defaults)) (λ vs. same_next name _ _ _ _ (same_acting name _ _ (same_new_function name number vs)) (same_bind name x.name))))))
+        (same_next name _ _ _ _ (same_values name _ _ (defaults_same x.defaults)) (λ vs. same_next name _ _ _ _ (same_acting name _ _ (λ locked. same_new_function (under name locked) number vs)) (same_bind name x.name))))))
 
     -- ---- trees of statements
 
@@ -241,13 +239,13 @@ module _ {C D : Type 0} (name : Names C D) where
     unfolding branches_in else_in body_in
     layer_same (Statement-F.Line line) last number = same_line_of last line
     layer_same (Statement-F.If at first more other) last number =
-        same_next name _ _ _ _ (same_located name at _ _ (same_acting name _ _ (same_charge name 1))) (λ _. same_branch at first.condition _ _ _ _ (same_block_of first.body)
+        same_next name _ _ _ _ (same_located name at _ _ (same_charging name 1)) (λ _. same_branch at first.condition _ _ _ _ (same_block_of first.body)
         (same_branches at first more _ _ (same_else_of at first more other)))
     layer_same (Statement-F.For at targets over body) last number =
-        same_next name _ _ _ _ (same_located name at _ _ (same_next name _ _ _ _ (same_acting name _ _ (same_charge name 1)) (λ _. same_iterated over))) (same_repeated at targets _ _ (same_block_of body))
-    layer_same (Statement-F.Def at def) last None = same_located name at _ _ (same_then_on _ _ (same_acting name _ _ (same_charge name 1)))
+        same_next name _ _ _ _ (same_located name at _ _ (same_next name _ _ _ _ (same_charging name 1) (λ _. same_iterated over))) (same_repeated at targets _ _ (same_block_of body))
+    layer_same (Statement-F.Def at def) last None = same_located name at _ _ (same_then_on _ _ (same_charging name 1))
     layer_same (Statement-F.Def at def) last (Some number) =
-        same_located name at _ _ (same_then_on _ _ (same_next name _ _ _ _ (same_acting name _ _ (same_charge name 1)) (λ _. same_defined _ _ number refl refl)))
+        same_located name at _ _ (same_then_on _ _ (same_next name _ _ _ _ (same_charging name 1) (λ _. same_defined _ _ number refl refl)))
 
     rolled_same : (x : Statement-F Statement) → SameDoing (layer_of st c (map-Statement Statement (Doing C) (statement_of st c) x)) (layer_of su d (map-Statement Statement (Doing D) (statement_of su d) x))
         → SameDoing (statement_of st c (roll-Statement x)) (statement_of su d (roll-Statement x))
@@ -270,7 +268,7 @@ module _ {C D : Type 0} (name : Names C D) where
     same_run_body : (def : Definition Statement) (id : ℕ) (all : List Filled) → SameSteps name (run_body st c def id all) (run_body su d def id all)
     unfolding run_body
     same_run_body def id all =
-        same_next name _ _ _ _ (same_acting name _ _ (same_charge name (sum (map default_weight all)))) (λ _. same_in_function name id (local_block def all) _ _ (same_result_of _ _ (same_body def.body)))
+        same_next name _ _ _ _ (same_charging name (sum (map default_weight all))) (λ _. same_in_function name id (local_block def all) _ _ (same_result_of _ _ (same_body def.body)))
 
     same_run_filled : (def : Definition Statement) (id : ℕ) (o : Option (List Filled)) → SameSteps name (run_filled st c def id o) (run_filled su d def id o)
     same_run_filled def id None = same_failing name failure.WrongArguments
@@ -293,8 +291,8 @@ module _ {C D : Type 0} (name : Names C D) where
   pub same_call_to : (st : Setting C) (su : Setting D) → SameSetting name st su → (n : ℕ) → SameCallee name (call_to st n) (call_to su n)
   unfolding call_to function object
   same_call_to st su h zero id vs by = same_failing name failure.TooManyCalls
-  same_call_to st su h (suc n) id vs by = record {
-    holds = λ w. ap (λ o. run_function su (call_to su n) id (function_held o) vs by (world_as name.to w)) (get_same name.to w.store.state.objects id)
-        ∙ (same_run_function st su h (call_to st n) (call_to su n) (same_call_to st su h n) id (slice_get w.store.state.objects id) vs by).holds w;
-    keeps = λ w. (same_run_function st su h (call_to st n) (call_to su n) (same_call_to st su h n) id (slice_get w.store.state.objects id) vs by).keeps w;
-  }
+  same_call_to st su h (suc n) id vs by = record { at = λ w.
+      let same = (same_run_function st su h (call_to st n) (call_to su n) (same_call_to st su h n) id (slice_get w.store.state.objects id) vs by).at w in record {
+        holds = ap (λ o. run_function su (call_to su n) id (function_held o) vs by (world_as name.to w)) (get_same name.to w.store.state.objects id) ∙ same.holds;
+        leads = same.leads;
+      } }

@@ -1,76 +1,80 @@
 -- Steps of expressions and statements do the same whatever the names of cells.
-use Rattle.std.proofs.Common.{◌≡◌, ℕ, List, [], ◌∷◌, ◌++◌, refl, ap, ◌∙◌}
+use Rattle.std.proofs.Common.{◌≡◌, ℕ, List, [], ◌∷◌, ◌++◌, refl, sym, ap, subst, ◌∙◌}
 use Rattle.std.specs.Prelude.{Option, Some, None, ◌-◌}
 use Rattle.star_value.specs.declared.failure.Failure.{Failure}
 use Rattle.star_value.specs.declared.failure.Failure.TheVariants as failure
 use Rattle.star_value.specs.declared.value.Value.{Value}
 use Rattle.star_value.specs.Weight.{weight}
 use Rattle.star_meaning.specs.State.{Object, State, global, set_global}
-use Rattle.star_meaning.specs.Steps.{Outcome, Went, Failed, Steps, Store, Action, and_then, ◌>>=◌, pure, fail, given_or}
+use Rattle.star_meaning.specs.Steps.{Outcome, Went, Failed, Steps, Store, Action, and_then, ◌>>=◌, pure, fail, given_or, charge}
 use Rattle.star_meaning.specs.World.{Block, Frame, World, Work, acting, bind, binding, in_block, in_function, left_block, located, located_at, locking, look_up, operate, operation, put_back, reading, slot_of, turns, unlocked, value_in, with_frame, with_store, write}
-use Rattle.star_meaning.specs.Renaming.{Names, state_as, store_as, world_as, outcome_as, reached, Same, SameSteps}
-use Rattle.star_meaning.specs.Growing.{Grown}
-use Rattle.star_meaning.proofs.GrownLemmas.{grown_same, grown_then}
+use Rattle.star_meaning.specs.Renaming.{Names, state_as, store_as, under, world_as, outcome_as, Same, SameAt, SameSteps}
+use Rattle.star_meaning.specs.Growing.{IfWent, IsBack, Later, Leads, reached}
+use Rattle.star_meaning.proofs.LaterLemmas.{later_fewer, later_global, later_same, leads_failed, leads_on, leads_same}
 use Rattle.star_meaning.proofs.Renamed.{same_charge}
 
--- what is reached after steps that grow; the frame is no part of the objects
-after_next : {C E A B : Type 0} (here : C) (os : List (Object C)) (o : Outcome (World C) E A) (g : A → Steps (World C) E B) → Grown here os (reached o).store.state.objects
-    → ((a : A) (w : World C) → Grown here w.store.state.objects (reached (g a w)).store.state.objects) → Grown here os (reached (and_then o g)).store.state.objects
-after_next here os (Went a w) g h k = grown_then here os w.store.state.objects (reached (g a w)).store.state.objects h (k a w)
-after_next here os (Failed e w) g h k = h
+-- ---- what outcomes lead to
 
-grown_unlocked : {C E A : Type 0} (here : C) (os : List (Object C)) (locked : List ℕ) (o : Outcome (World C) E A) → Grown here os (reached o).store.state.objects → Grown here os (reached (unlocked locked o)).store.state.objects
-grown_unlocked here os locked (Went a w) h = h
-grown_unlocked here os locked (Failed e w) h = h
+module _ {C : Type 0} (here : C) where
+  leads_next : {E A B : Type 0} (w : World C) (o : Outcome (World C) E A) (g : A → Steps (World C) E B) → Leads here w o
+      → ((a : A) (v : World C) → IsBack w.frame v.frame → Leads here v (g a v)) → Leads here w (and_then o g)
+  leads_next w (Went a v) g h k = leads_on here a w v (g a v) h (k a v h.back)
+  leads_next w (Failed e v) g h k = record { later = h.later; back = tt }
 
-grown_stored : {C A : Type 0} (here : C) (w : World C) (o : Outcome (Store C) Failure A) → Grown here w.store.state.objects (reached o).state.objects → Grown here w.store.state.objects (reached (with_store w o)).store.state.objects
-grown_stored here w (Went a s) h = h
-grown_stored here w (Failed e s) h = h
+  leads_unlocked : {E A : Type 0} (ids : List ℕ) (w : World C) (o : Outcome (World C) E A) → Leads here (with_frame (record w.frame { locked = w.frame.locked ++ ids }) w) o
+      → Leads here w (unlocked w.frame.locked o)
+  leads_unlocked ids w (Went a v) h = record { later = later_fewer here w.frame.locked ids w.store v.store h.later; back = record { active = h.back.active; locked = refl } }
+  leads_unlocked ids w (Failed e v) h = record { later = later_fewer here w.frame.locked ids w.store v.store h.later; back = tt }
 
-grown_given : {C : Type 0} (here : C) (o : Option Value) (w : World C) → Grown here w.store.state.objects (reached (given_or failure.Unbound o w)).store.state.objects
-grown_given here None w = grown_same here w.store.state.objects
-grown_given here (Some v) w = grown_same here w.store.state.objects
+  leads_stored : {A : Type 0} (w : World C) (o : Outcome (Store C) Failure A) → Later here w.frame.locked w.store (reached o) → Leads here w (with_store w o)
+  leads_stored w (Went a s) h = record { later = h; back = record { active = refl; locked = refl } }
+  leads_stored w (Failed e s) h = record { later = h; back = tt }
 
-grown_binding : {C : Type 0} (here : C) (o : Option (Option Value)) (n : List ℕ) (v : Value) (w : World C) → Grown here w.store.state.objects (binding o n v w).store.state.objects
-unfolding set_global
-grown_binding here None n v w = grown_same here w.store.state.objects
-grown_binding here (Some slot) n v w = grown_same here w.store.state.objects
+  leads_given : (o : Option Value) (w : World C) → Leads here w (given_or failure.Unbound o w)
+  leads_given None w = leads_failed here failure.Unbound w
+  leads_given (Some v) w = leads_same here v w
 
-grown_put_back : {C E A : Type 0} (here : C) (os : List (Object C)) (f : Frame) (o : Outcome (World C) E A) → Grown here os (reached o).store.state.objects → Grown here os (reached (put_back f o)).store.state.objects
-grown_put_back here os f (Went a w) h = h
-grown_put_back here os f (Failed e w) h = h
+  leads_binding : (o : Option (Option Value)) (n : List ℕ) (v : Value) (w : World C) → Leads {E = Failure} {A = Unit {0}} here w (Went tt (binding o n v w))
+  leads_binding None n v w = record { later = later_global here w.frame.locked w.store n v; back = record { active = refl; locked = refl } }
+  leads_binding (Some slot) n v w = record { later = later_same here w.frame.locked w.store; back = record { active = refl; locked = refl } }
 
-grown_left : {C E A : Type 0} (here : C) (os : List (Object C)) (o : Outcome (World C) E A) → Grown here os (reached o).store.state.objects → Grown here os (reached (left_block o)).store.state.objects
-grown_left here os (Went a w) h = h
-grown_left here os (Failed e w) h = h
+  leads_put_back : {E A : Type 0} (blocks : List Block) (active : List ℕ) (w : World C) (o : Outcome (World C) E A)
+      → Leads here (with_frame (record { blocks = blocks; active = active; locked = w.frame.locked }) w) o → Leads here w (put_back w.frame o)
+  leads_put_back blocks active w (Went a v) h = record { later = h.later; back = record { active = refl; locked = refl } }
+  leads_put_back blocks active w (Failed e v) h = record { later = h.later; back = tt }
 
-grown_located : {C A : Type 0} (here : C) (os : List (Object C)) (line : ℕ) (o : Outcome (World C) Failure A) → Grown here os (reached o).store.state.objects → Grown here os (reached (located_at line o)).store.state.objects
-grown_located here os line (Went a w) h = h
-grown_located here os line (Failed e w) h = h
+  leads_left : {E A : Type 0} (blocks : List Block) (w : World C) (o : Outcome (World C) E A) → Leads here (with_frame (record w.frame { blocks = blocks }) w) o → Leads here w (left_block o)
+  leads_left blocks w (Went a v) h = record { later = h.later; back = record { active = h.back.active; locked = h.back.locked } }
+  leads_left blocks w (Failed e v) h = record { later = h.later; back = tt }
+
+  leads_located : {A : Type 0} (line : ℕ) (w : World C) (o : Outcome (World C) Failure A) → Leads here w o → Leads here w (located_at line o)
+  leads_located line w (Went a v) h = record { later = h.later; back = h.back }
+  leads_located line w (Failed e v) h = record { later = h.later; back = tt }
 
 module _ {C D : Type 0} (name : Names C D) where
-  -- nothing is done
-  idle : (w : World C) → Grown name.here w.store.state.objects w.store.state.objects
-  idle w = grown_same name.here w.store.state.objects
-
   module _ {E : Type 0} where
-    next_at : {A B : Type 0} (o : Outcome (World C) E A) (g : A → Steps (World C) E B) (h : A → Steps (World D) E B)
-        → ((a : A) → SameSteps name (g a) (h a)) → and_then (outcome_as (world_as name.to) o) h ≡ outcome_as (world_as name.to) (and_then o g)
-    next_at (Went a w) g h k = (k a).holds w
-    next_at (Failed e w) g h k = refl
+    next_at : {A B : Type 0} (w : World C) (o : Outcome (World C) E A) (g : A → Steps (World C) E B) (h : A → Steps (World D) E B) → IfWent o (λ v. IsBack w.frame v.frame)
+        → ((a : A) (v : World C) → IsBack w.frame v.frame → SameAt name (g a) (h a) v) → and_then (outcome_as (world_as name.to) o) h ≡ outcome_as (world_as name.to) (and_then o g)
+    next_at w (Went a v) g h b k = (k a v b).holds
+    next_at w (Failed e v) g h b k = refl
+
+    -- steps after steps from a world; where the later ones begin, the same lists and dicts are iterated over
+    pub same_next_at : {A B : Type 0} (p : Steps (World C) E A) (q : Steps (World D) E A) (g : A → Steps (World C) E B) (h : A → Steps (World D) E B) (w : World C)
+        → SameAt name p q w → ((a : A) (v : World C) → IsBack w.frame v.frame → SameAt name (g a) (h a) v) → SameAt name (p >>= g) (q >>= h) w
+    same_next_at p q g h w k l = record {
+      holds = ap (λ o. and_then o h) k.holds ∙ next_at w (p w) g h k.leads.back l;
+      leads = leads_next name.here w (p w) g k.leads (λ a v b. (l a v b).leads);
+    }
 
     pub same_next : {A B : Type 0} (p : Steps (World C) E A) (q : Steps (World D) E A) (g : A → Steps (World C) E B) (h : A → Steps (World D) E B)
         → SameSteps name p q → ((a : A) → SameSteps name (g a) (h a)) → SameSteps name (p >>= g) (q >>= h)
-    same_next p q g h k l = record {
-      holds = λ w. ap (λ o. and_then o h) (k.holds w) ∙ next_at (p w) g h l;
-      keeps = λ w. after_next name.here w.store.state.objects (p w) g (k.keeps w) (λ a. (l a).keeps);
-    }
+    same_next p q g h k l = record { at = λ w. same_next_at p q g h w (k.at w) (λ a v b. (l a).at v) }
 
     pub same_going : {A : Type 0} (a : A) → SameSteps {E = E} name (pure a) (pure a)
-    same_going a = record { holds = λ w. refl; keeps = idle }
+    same_going a = record { at = λ w. record { holds = refl; leads = leads_same name.here a w } }
 
     pub same_failing : {A : Type 0} (e : E) → SameSteps {A = A} name (fail e) (fail e)
-    same_failing e = record { holds = λ w. refl; keeps = idle }
+    same_failing e = record { at = λ w. record { holds = refl; leads = leads_failed name.here e w } }
 
     unlocked_at : {A : Type 0} (locked : List ℕ) (o : Outcome (World C) E A) → unlocked locked (outcome_as (world_as name.to) o) ≡ outcome_as (world_as name.to) (unlocked locked o)
     unlocked_at locked (Went a w) = refl
@@ -78,34 +82,47 @@ module _ {C D : Type 0} (name : Names C D) where
 
     pub same_locking : {A : Type 0} (ids : List ℕ) (p : Steps (World C) E A) (q : Steps (World D) E A) → SameSteps name p q → SameSteps name (locking ids p) (locking ids q)
     unfolding locking
-    same_locking ids p q h = record {
-      holds = λ w. ap (unlocked w.frame.locked) (h.holds (with_frame (record w.frame { locked = w.frame.locked ++ ids }) w))
-          ∙ unlocked_at w.frame.locked (p (with_frame (record w.frame { locked = w.frame.locked ++ ids }) w));
-      keeps = λ w. grown_unlocked name.here w.store.state.objects w.frame.locked (p (with_frame (record w.frame { locked = w.frame.locked ++ ids }) w)) (h.keeps (with_frame (record w.frame { locked = w.frame.locked ++ ids }) w));
-    }
+    same_locking ids p q h = record { at = λ w. let v = with_frame (record w.frame { locked = w.frame.locked ++ ids }) w in record {
+      holds = ap (unlocked w.frame.locked) (h.at v).holds ∙ unlocked_at w.frame.locked (p v);
+      leads = leads_unlocked name.here ids w (p v) (h.at v).leads;
+    } }
 
   stored_at : {A : Type 0} (w : World C) (o : Outcome (Store C) Failure A) → with_store (world_as name.to w) (outcome_as (store_as name.to) o) ≡ outcome_as (world_as name.to) (with_store w o)
   stored_at w (Went a s) = refl
   stored_at w (Failed e s) = refl
 
-  pub same_acting : {A : Type 0} (p : Action C A) (q : Action D A) → Same name p q → SameSteps name (acting p) (acting q)
+  pub same_acting_at : {A : Type 0} (p : Action C A) (q : Action D A) (w : World C) → Same (under name w.frame.locked) p q → SameAt name (acting p) (acting q) w
   unfolding acting
-  same_acting p q h = record { holds = λ w. ap (with_store (world_as name.to w)) (h.holds w.store) ∙ stored_at w (p w.store); keeps = λ w. grown_stored name.here w (p w.store) (h.keeps w.store) }
+  same_acting_at p q w h = record { holds = ap (with_store (world_as name.to w)) (h.holds w.store) ∙ stored_at w (p w.store); leads = leads_stored name.here w (p w.store) (h.keeps w.store) }
+
+  pub same_acting : {A : Type 0} (p : Action C A) (q : Action D A) → ((locked : List ℕ) → Same (under name locked) p q) → SameSteps name (acting p) (acting q)
+  same_acting p q h = record { at = λ w. same_acting_at p q w (h w.frame.locked) }
 
   pub same_reading : {A : Type 0} (of : State C → A) (other : State D → A) → ((s : State C) → other (state_as name.to s) ≡ of s) → SameSteps name (reading of) (reading other)
-  same_reading of other k = record { holds = λ w. ap (λ a. Went a (world_as name.to w)) (k w.store.state); keeps = idle }
+  same_reading of other k = record { at = λ w. record { holds = ap (λ a. Went a (world_as name.to w)) (k w.store.state); leads = leads_same name.here (of w.store.state) w } }
+
+  pub same_charging : (n : ℕ) → SameSteps name (acting (charge n)) (acting (charge n))
+  same_charging n = same_acting _ _ (λ locked. same_charge (under name locked) n)
+
+  same_weighed : (v : Value) → SameSteps name (acting (charge (weight v - 1)) >>= (λ _. pure v)) (acting (charge (weight v - 1)) >>= (λ _. pure v))
+  same_weighed v = same_next _ _ _ _ (same_charging (weight v - 1)) (λ _. same_going v)
 
   pub same_operation : (p : Work C Value) (q : Work D Value) → SameSteps name p q → SameSteps name (operation p) (operation q)
   unfolding operation
-  same_operation p q h =
-      same_next _ _ _ _ (same_acting _ _ (same_charge name 1)) (λ _. same_next _ _ _ _ h (λ v. same_next _ _ _ _ (same_acting _ _ (same_charge name (weight v - 1))) (λ _. same_going v)))
+  same_operation p q h = same_next _ _ _ _ (same_charging 1) (λ _. same_next _ _ _ _ h same_weighed)
 
-  pub same_operate : (p : Action C Value) (q : Action D Value) → Same name p q → SameSteps name (operate p) (operate q)
+  pub same_operate : (p : Action C Value) (q : Action D Value) → ((locked : List ℕ) → Same (under name locked) p q) → SameSteps name (operate p) (operate q)
   same_operate p q h = same_operation _ _ (same_acting p q h)
+
+  -- an operation that hangs on what is iterated over
+  pub same_operate_at : (p : Action C Value) (q : Action D Value) (w : World C) → Same (under name w.frame.locked) p q → SameAt name (operate p) (operate q) w
+  unfolding operation
+  same_operate_at p q w h =
+      same_next_at _ _ _ _ w ((same_charging 1).at w) (λ _ v b. same_next_at _ _ _ _ v (same_acting_at p q v (subst (λ locked. Same (under name locked) p q) (sym b.locked) h)) (λ x u _. (same_weighed x).at u))
 
   pub same_write : (text : List ℕ) → SameSteps name (write text) (write text)
   unfolding write
-  same_write text = record { holds = λ w. refl; keeps = idle }
+  same_write text = record { at = λ w. record { holds = refl; leads = record { later = later_same name.here w.frame.locked w.store; back = record { active = refl; locked = refl } } } }
 
   global_as : (s : State C) (n : List ℕ) → global (state_as name.to s) n ≡ global s n
   unfolding global
@@ -122,10 +139,10 @@ module _ {C D : Type 0} (name : Names C D) where
 
   pub same_look_up : (n : List ℕ) → SameSteps name (look_up n) (look_up n)
   unfolding look_up
-  same_look_up n = record {
-    holds = λ w. ap (λ o. given_or failure.Unbound o (world_as name.to w)) (value_as w.store.state n (slot_of w.frame.blocks n)) ∙ given_as (value_in w.store.state n (slot_of w.frame.blocks n)) w;
-    keeps = λ w. grown_given name.here (value_in w.store.state n (slot_of w.frame.blocks n)) w;
-  }
+  same_look_up n = record { at = λ w. let o = value_in w.store.state n (slot_of w.frame.blocks n) in record {
+    holds = ap (λ o. given_or failure.Unbound o (world_as name.to w)) (value_as w.store.state n (slot_of w.frame.blocks n)) ∙ given_as o w;
+    leads = leads_given name.here o w;
+  } }
 
   bound_as : (o : Option (Option Value)) (n : List ℕ) (v : Value) (w : World C) → binding o n v (world_as name.to w) ≡ world_as name.to (binding o n v w)
   unfolding set_global
@@ -134,7 +151,7 @@ module _ {C D : Type 0} (name : Names C D) where
 
   pub same_bind : (n : List ℕ) (v : Value) → SameSteps name (bind n v) (bind n v)
   unfolding bind
-  same_bind n v = record { holds = λ w. ap (Went tt) (bound_as (slot_of w.frame.blocks n) n v w); keeps = λ w. grown_binding name.here (slot_of w.frame.blocks n) n v w }
+  same_bind n v = record { at = λ w. record { holds = ap (Went tt) (bound_as (slot_of w.frame.blocks n) n v w); leads = leads_binding name.here (slot_of w.frame.blocks n) n v w } }
 
   put_back_at : {E A : Type 0} (f : Frame) (o : Outcome (World C) E A) → put_back f (outcome_as (world_as name.to) o) ≡ outcome_as (world_as name.to) (put_back f o)
   put_back_at f (Went a w) = refl
@@ -146,19 +163,17 @@ module _ {C D : Type 0} (name : Names C D) where
 
   pub same_in_block : {A : Type 0} (block : Block) (p : Work C A) (q : Work D A) → SameSteps name p q → SameSteps name (in_block block p) (in_block block q)
   unfolding in_block
-  same_in_block block p q h = record {
-    holds = λ w. ap left_block (h.holds (with_frame (record w.frame { blocks = block ∷ w.frame.blocks }) w))
-        ∙ left_block_at (p (with_frame (record w.frame { blocks = block ∷ w.frame.blocks }) w));
-    keeps = λ w. grown_left name.here w.store.state.objects (p (with_frame (record w.frame { blocks = block ∷ w.frame.blocks }) w)) (h.keeps (with_frame (record w.frame { blocks = block ∷ w.frame.blocks }) w));
-  }
+  same_in_block block p q h = record { at = λ w. let v = with_frame (record w.frame { blocks = block ∷ w.frame.blocks }) w in record {
+    holds = ap left_block (h.at v).holds ∙ left_block_at (p v);
+    leads = leads_left name.here (block ∷ w.frame.blocks) w (p v) (h.at v).leads;
+  } }
 
   pub same_in_function : {A : Type 0} (id : ℕ) (block : Block) (p : Work C A) (q : Work D A) → SameSteps name p q → SameSteps name (in_function id block p) (in_function id block q)
   unfolding in_function
-  same_in_function id block p q h = record {
-    holds = λ w. ap (put_back w.frame) (h.holds (with_frame (record { blocks = block ∷ []; active = w.frame.active ++ id ∷ []; locked = w.frame.locked }) w))
-        ∙ put_back_at w.frame (p (with_frame (record { blocks = block ∷ []; active = w.frame.active ++ id ∷ []; locked = w.frame.locked }) w));
-    keeps = λ w. grown_put_back name.here w.store.state.objects w.frame (p (with_frame (record { blocks = block ∷ []; active = w.frame.active ++ id ∷ []; locked = w.frame.locked }) w)) (h.keeps (with_frame (record { blocks = block ∷ []; active = w.frame.active ++ id ∷ []; locked = w.frame.locked }) w));
-  }
+  same_in_function id block p q h = record { at = λ w. let v = with_frame (record { blocks = block ∷ []; active = w.frame.active ++ id ∷ []; locked = w.frame.locked }) w in record {
+    holds = ap (put_back w.frame) (h.at v).holds ∙ put_back_at w.frame (p v);
+    leads = leads_put_back name.here (block ∷ []) (w.frame.active ++ id ∷ []) w (p v) (h.at v).leads;
+  } }
 
   pub same_turns : {A : Type 0} (f : Value → A → Work C A) (g : Value → A → Work D A) → ((v : Value) (a : A) → SameSteps name (f v a) (g v a)) → (xs : List Value) (a : A) → SameSteps name (turns f xs a) (turns g xs a)
   same_turns f g h [] a = same_going a
@@ -170,4 +185,4 @@ module _ {C D : Type 0} (name : Names C D) where
 
   pub same_located : {A : Type 0} (line : ℕ) (p : Work C A) (q : Work D A) → SameSteps name p q → SameSteps name (located line p) (located line q)
   unfolding located
-  same_located line p q h = record { holds = λ w. ap (located_at line) (h.holds w) ∙ located_as line (p w); keeps = λ w. grown_located name.here w.store.state.objects line (p w) (h.keeps w) }
+  same_located line p q h = record { at = λ w. record { holds = ap (located_at line) (h.at w).holds ∙ located_as line (p w); leads = leads_located name.here line w (p w) (h.at w).leads } }

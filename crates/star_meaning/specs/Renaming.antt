@@ -6,13 +6,18 @@ use Rattle.star_value.specs.declared.value.Value.{Value}
 use Rattle.star_meaning.specs.Builtins.{ByName}
 use Rattle.star_meaning.specs.World.{World, Work}
 use Rattle.star_meaning.specs.Expressions.{Setting, Callee, Meant}
-use Rattle.star_meaning.specs.Growing.{Grown}
+use Rattle.star_meaning.specs.Growing.{Later, Leads, reached}
 use Rattle.star_meaning.specs.Validity.{renamed}
 
--- other names for cells, and the cell that runs
+-- other names for cells, the cell that runs, and the lists and dicts that are iterated over while an operation is done
 pub record Names (C D : Type 0) : Type 0 where
   pub to : C → D
   pub here : C
+  pub locked : List ℕ
+
+-- the same names while other lists and dicts are iterated over
+abbrev pub under : {C D : Type 0} → Names C D → List ℕ → Names C D
+under name locked = record name { locked = locked }
 
 module _ {C D : Type 0} (name : C → D) where
   abbrev pub state_as : State C → State D
@@ -29,21 +34,20 @@ abbrev pub outcome_as : {W V E A : Type 0} → (W → V) → Outcome W E A → O
 outcome_as f (Went a w) = Went a (f w)
 outcome_as f (Failed e w) = Failed e (f w)
 
--- what is reached
-abbrev pub reached : {W E A : Type 0} → Outcome W E A → W
-reached (Went a w) = w
-reached (Failed e w) = w
-
--- an operation and its counterpart do the same in states that are alike but for the names of cells, and objects stay what
--- they must
+-- an operation and its counterpart do the same in states that are alike but for the names of cells, and objects, steps and
+-- what is iterated over stay what they must
 pub record Same {C D A : Type 0} (name : Names C D) (p : Action C A) (q : Action D A) : Type 0 where
   pub holds : (s : Store C) → q (store_as name.to s) ≡ outcome_as (store_as name.to) (p s)
-  pub keeps : (s : Store C) → Grown name.here s.state.objects (reached (p s)).state.objects
+  pub keeps : (s : Store C) → Later name.here name.locked s (reached (p s))
 
--- the same of the steps of expressions and statements
+-- the same of the steps of expressions and statements from a world; what is iterated over is the frame's
+pub record SameAt {C D E A : Type 0} (name : Names C D) (p : Steps (World C) E A) (q : Steps (World D) E A) (w : World C) : Type 0 where
+  pub holds : q (world_as name.to w) ≡ outcome_as (world_as name.to) (p w)
+  pub leads : Leads name.here w (p w)
+
+-- and from each world
 pub record SameSteps {C D E A : Type 0} (name : Names C D) (p : Steps (World C) E A) (q : Steps (World D) E A) : Type 0 where
-  pub holds : (w : World C) → q (world_as name.to w) ≡ outcome_as (world_as name.to) (p w)
-  pub keeps : (w : World C) → Grown name.here w.store.state.objects (reached (p w)).store.state.objects
+  pub at : (w : World C) → SameAt name p q w
 
 -- the same of what does not change while a cell runs, of calls of functions, and of the meanings of trees
 pub record SameSetting {C D : Type 0} (name : Names C D) (st : Setting C) (su : Setting D) : Type 0 where
