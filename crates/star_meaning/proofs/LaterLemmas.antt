@@ -1,17 +1,16 @@
 -- What may become of the state and of the steps left: nothing done, one thing after another, and the single changes.
-use Rattle.std.proofs.Common.{◌≡◌, ◌≤◌, ℕ, zero, suc, List, [], ◌∷◌, ◌++◌, Bool, true, false, IsTrue, refl, sym, ap, arith, subst, ◌∙◌}
+use Rattle.std.proofs.Common.{◌≡◌, ◌≤◌, ℕ, zero, suc, List, [], ◌∷◌, ◌++◌, Bool, true, false, IsTrue, refl, ap, arith, subst, ◌∙◌}
 use Rattle.std.proofs.lemmas.Option.{none-some}
-use Rattle.std.specs.Prelude.{◌-◌, ◌==◌, ◌||◌, if◌then◌else◌, nat_lt, Option, Some, None, slice_get, slice_set, Result, Ok, Err}
-use Rattle.star_value.specs.declared.failure.Failure.{Failure}
+use Rattle.std.specs.Prelude.{◌-◌, ◌==◌, ◌||◌, if◌then◌else◌, nat_lt, Some, slice_get, slice_set, Ok, Err}
 use Rattle.star_value.specs.declared.failure.Failure.TheVariants.{StepLimit}
 use Rattle.star_value.specs.declared.key.Key.{Key}
 use Rattle.star_value.specs.declared.value.Value.{Value}
 use Rattle.star_value.specs.Charge.{charged}
-use Rattle.star_meaning.specs.State.{Object, AList, ADict, State, object, set_global, with_dict, with_list, with_new}
+use Rattle.star_meaning.specs.State.{Object, AList, ADict, object, set_global, with_dict, with_list, with_new}
 use Rattle.star_meaning.specs.Steps.{Outcome, Went, Failed, Store, paid}
 use Rattle.star_meaning.specs.Values.{has}
 use Rattle.star_meaning.specs.World.{Frame, World}
-use Rattle.star_meaning.specs.Growing.{Grown, IsBack, IsMade, IfWent, Later, Leads, reached}
+use Rattle.star_meaning.specs.Growing.{IsBack, IsMade, IfWent, Later, Leads, reached}
 use Rattle.star_meaning.proofs.GrownLemmas.{grown_dict, grown_list, grown_new, grown_same, grown_then}
 
 -- ---- the object of a number after a change

@@ -1,9 +1,13 @@
+pub mod Alone
 pub mod Equations
 pub mod Evaluated
 pub mod FewCalls
 pub mod Forms
 pub mod GrownLemmas
+pub mod Keeping
 pub mod LaterLemmas
+pub mod Leading
+pub mod LeadingLaws
 pub mod OneCell
 pub mod Opened
 pub mod Renamed

@@ -23,7 +23,7 @@ use Rattle.star_meaning.proofs.RenamedWorld.{same_going, same_next}
 use Rattle.star_meaning.proofs.RenamedStatements.{same_call_to, same_go_on, same_statement}
 
 module _ {C D : Type 0} (name : Names C D) (st : Setting C) (su : Setting D) (same_st : SameSetting name st su) where
-  same_statements_from : (c : Callee C) (d : Callee D) → SameCallee name c d → (n : ℕ) (ss : List Statement) → SameSteps name (statements_from st c n ss) (statements_from su d n ss)
+  pub same_statements_from : (c : Callee C) (d : Callee D) → SameCallee name c d → (n : ℕ) (ss : List Statement) → SameSteps name (statements_from st c n ss) (statements_from su d n ss)
   same_statements_from c d h n [] = same_going name flow.On
   same_statements_from c d h n (s ∷ ss) =
       same_next name _ _ _ _ (same_statement name st su same_st c d h s _ (Some n)) (same_go_on name _ _ (same_statements_from c d h (n + is_def s) ss))

@@ -164,7 +164,7 @@ module _ {C D : Type 0} (name : Names C D) where
   names_of_clauses [] (y ∷ ys) h = absurd h
   names_of_clauses (x ∷ xs) [] h = absurd h
 
-  same_store_each : (ms : List (Meant C)) (ns : List (Meant D)) → Each Alike ms ns → (vs : List Value) → SameSteps name (store_each ms vs) (store_each ns vs)
+  pub same_store_each : (ms : List (Meant C)) (ns : List (Meant D)) → Each Alike ms ns → (vs : List Value) → SameSteps name (store_each ms vs) (store_each ns vs)
   same_store_each [] [] h vs = same_going name tt
   same_store_each (m ∷ ms) (n ∷ ns) h [] = same_going name tt
   same_store_each (m ∷ ms) (n ∷ ns) h (v ∷ vs) = same_next name _ _ _ _ (h.0.store v) (λ _. same_store_each ms ns h.1 vs)
@@ -190,12 +190,12 @@ module _ {C D : Type 0} (name : Names C D) where
   unfolding next_item
   same_next_item ms ns h x = same_next name _ _ _ _ (same_charging name (weight x)) (λ _. same_store_in ms ns h x)
 
-  same_loop_over : {A : Type 0} (f : Value → A → Work C A) (g : Value → A → Work D A) → ((v : Value) (a : A) → SameSteps name (f v a) (g v a)) → (v : Value) (a : A) → SameSteps name (loop_over f v a) (loop_over g v a)
+  pub same_loop_over : {A : Type 0} (f : Value → A → Work C A) (g : Value → A → Work D A) → ((v : Value) (a : A) → SameSteps name (f v a) (g v a)) → (v : Value) (a : A) → SameSteps name (loop_over f v a) (loop_over g v a)
   unfolding loop_over
   same_loop_over f g h v a = same_next name _ _ _ _ (same_acting name _ _ (λ locked. same_items_of (under name locked) v)) (λ items. same_locking name (lock_of v) _ _ (same_turns name f g h items a))
 
   module _ {A : Type 0} (f : A → Work C A) (g : A → Work D A) (h : (a : A) → SameSteps name (f a) (g a)) where
-    same_clauses_from : (xs : List (Clause (Meant C))) (ys : List (Clause (Meant D))) → Each AlikeClause xs ys → (a : A) → SameSteps name (clauses_from xs f a) (clauses_from ys g a)
+    pub same_clauses_from : (xs : List (Clause (Meant C))) (ys : List (Clause (Meant D))) → Each AlikeClause xs ys → (a : A) → SameSteps name (clauses_from xs f a) (clauses_from ys g a)
     same_clauses_from [] [] k a = h a
     same_clauses_from (clause.If condition ∷ xs) (clause.If other ∷ ys) k a =
         same_next name _ _ _ _ k.0.value (λ v. same_next name _ _ _ _ (same_truth v) (λ t. same_choose t _ _ _ _ (same_clauses_from xs ys k.1 a) (same_going name a)))

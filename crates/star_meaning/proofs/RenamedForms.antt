@@ -40,7 +40,7 @@ module _ {C D : Type 0} (name : Names C D) (st : Setting C) (su : Setting D) (sa
   pub naming_as : (x : C) (n : ℕ) → naming su (name.to x) n ≡ naming st x n
   naming_as x n = ap name_of (same_st.define x n)
 
-  same_read_input : (n : List ℕ) → SameSteps name (read_input st n) (read_input su n)
+  pub same_read_input : (n : List ℕ) → SameSteps name (read_input st n) (read_input su n)
   unfolding read_input
   same_read_input n =
       subst (λ all. SameSteps name (operate (given_or failure.NoInput (inputs.value_of st.inputs n) >>= input_value)) (operate (given_or failure.NoInput (inputs.value_of all n) >>= input_value))) (sym same_st.inputs)
@@ -54,7 +54,7 @@ module _ {C D : Type 0} (name : Names C D) (st : Setting C) (su : Setting D) (sa
   same_called_at (Value-F.Builtin which) vs n = same_written _ _ (λ locked. same_call_builtin (under name locked) (naming st) (naming su) naming_as which vs n)
   same_called_at _ vs n = same_failing name failure.WrongType
 
-  same_called : (f : Value) (vs : List Value) (n : ByName) → SameSteps name (called st c f vs n) (called su d f vs n)
+  pub same_called : (f : Value) (vs : List Value) (n : ByName) → SameSteps name (called st c f vs n) (called su d f vs n)
   unfolding called
   same_called f vs n = same_operation name _ _ (same_called_at (out-Value f) vs n)
 
@@ -73,7 +73,7 @@ module _ {C D : Type 0} (name : Names C D) (st : Setting C) (su : Setting D) (sa
     pub op_is : y.op ≡ x.op
     pub operand_is : Alike name x.operand y.operand
 
-  same_chained : (xs : List (Link (Meant C))) (ys : List (Link (Meant D))) → Each AlikeLink xs ys → (v : Value) → SameSteps name (chained st c xs v) (chained su d ys v)
+  pub same_chained : (xs : List (Link (Meant C))) (ys : List (Link (Meant D))) → Each AlikeLink xs ys → (v : Value) → SameSteps name (chained st c xs v) (chained su d ys v)
   same_chained [] [] h v = same_going name v
   same_chained (x ∷ xs) (y ∷ ys) h v =
       subst (λ o. SameSteps name (linked st c x.op v x.operand.value (chained st c xs)) (linked su d o v y.operand.value (chained su d ys))) (sym h.0.op_is)
@@ -93,11 +93,11 @@ module _ {C D : Type 0} (name : Names C D) (st : Setting C) (su : Setting D) (sa
   AlikeSuffix (suffix.Method n x) (suffix.Method m y) = (m ≡ n) × AlikeArguments x y
   AlikeSuffix _ _ = ⊥
 
-  same_named_values : (xs : List (Named (Meant C))) (ys : List (Named (Meant D))) → Each (AlikeNamed name) xs ys → SameSteps name (named_values xs) (named_values ys)
+  pub same_named_values : (xs : List (Named (Meant C))) (ys : List (Named (Meant D))) → Each (AlikeNamed name) xs ys → SameSteps name (named_values xs) (named_values ys)
   unfolding named_values
   same_named_values xs ys h = same_named_from name [] xs ys h
 
-  same_suffix_value : (s : Suffix (Meant C)) (t : Suffix (Meant D)) → AlikeSuffix s t → (x : Value) → SameSteps name (suffix_value st c s x) (suffix_value su d t x)
+  pub same_suffix_value : (s : Suffix (Meant C)) (t : Suffix (Meant D)) → AlikeSuffix s t → (x : Value) → SameSteps name (suffix_value st c s x) (suffix_value su d t x)
   same_suffix_value (suffix.Index at) (suffix.Index to) h x = same_next name _ _ _ _ h.value (λ i. same_operate name _ _ (λ locked. same_index (under name locked) x i))
   same_suffix_value (suffix.Slice i j k) (suffix.Slice a b e) h x =
       same_next name _ _ _ _ (same_optional_value name i a h.0) (λ u. same_next name _ _ _ _ (same_optional_value name j b h.1) (λ v. same_next name _ _ _ _ (same_step_value name k e h.2) (λ w.
@@ -120,7 +120,7 @@ module _ {C D : Type 0} (name : Names C D) (st : Setting C) (su : Setting D) (sa
   same_suffix_value (suffix.Method n g) (suffix.Slice a b e) h x = absurd h
   same_suffix_value (suffix.Method n g) (suffix.Call f) h x = absurd h
 
-  same_suffixed : (xs : List (Suffix (Meant C))) (ys : List (Suffix (Meant D))) → Each AlikeSuffix xs ys → (v : Value) → SameSteps name (suffixed st c xs v) (suffixed su d ys v)
+  pub same_suffixed : (xs : List (Suffix (Meant C))) (ys : List (Suffix (Meant D))) → Each AlikeSuffix xs ys → (v : Value) → SameSteps name (suffixed st c xs v) (suffixed su d ys v)
   same_suffixed [] [] h v = same_going name v
   same_suffixed (x ∷ xs) (y ∷ ys) h v = same_next name _ _ _ _ (same_suffix_value x y h.0 v) (same_suffixed xs ys h.1)
   same_suffixed [] (y ∷ ys) h v = absurd h
@@ -182,12 +182,12 @@ module _ {C D : Type 0} (name : Names C D) (st : Setting C) (su : Setting D) (sa
   headed_alike m n xs ys h k None = (h.value, k)
   headed_alike m n xs ys h k (Some i) = (same_read_input i, rest_alike xs ys k)
 
-  front_alike : (m : Meant C) (n : Meant D) (xs : List (Suffix (Meant C))) (ys : List (Suffix (Meant D))) → Alike name m n → Each AlikeSuffix xs ys → AlikeFront (front st c m xs) (front su d n ys)
+  pub front_alike : (m : Meant C) (n : Meant D) (xs : List (Suffix (Meant C))) (ys : List (Suffix (Meant D))) → Alike name m n → Each AlikeSuffix xs ys → AlikeFront (front st c m xs) (front su d n ys)
   front_alike m n xs ys h k =
       subst (λ o. AlikeFront (front st c m xs) (headed su d n ys o)) (sym (ap (λ b. input_name su d b ys) h.is_input ∙ input_as m.is_input xs ys k))
       (headed_alike m n xs ys h k (input_name st c m.is_input xs))
 
-  same_parts : (xs : List (Suffix (Meant C))) (ys : List (Suffix (Meant D))) → Each AlikeSuffix xs ys → (v : Value) → SameSteps name (parts st c xs v) (parts su d ys v)
+  pub same_parts : (xs : List (Suffix (Meant C))) (ys : List (Suffix (Meant D))) → Each AlikeSuffix xs ys → (v : Value) → SameSteps name (parts st c xs v) (parts su d ys v)
   same_parts [] [] h v = same_failing name failure.WrongType
   same_parts (suffix.Index at ∷ []) (suffix.Index to ∷ []) h v = same_next name _ _ _ _ h.0.value (λ i. same_going name (v, i))
   same_parts (suffix.Index at ∷ x ∷ xs) (suffix.Index to ∷ y ∷ ys) h v = same_next name _ _ _ _ (same_suffix_value (suffix.Index at) (suffix.Index to) h.0 v) (same_parts (x ∷ xs) (y ∷ ys) h.1)
@@ -211,7 +211,7 @@ module _ {C D : Type 0} (name : Names C D) (st : Setting C) (su : Setting D) (sa
   same_parts (suffix.Method n x ∷ xs) (suffix.Slice a b e ∷ ys) h v = absurd h.0
   same_parts (suffix.Method n x ∷ xs) (suffix.Call y ∷ ys) h v = absurd h.0
 
-  same_place : (m : Meant C) (n : Meant D) (xs : List (Suffix (Meant C))) (ys : List (Suffix (Meant D))) → Alike name m n → Each AlikeSuffix xs ys → SameSteps name (place st c m xs) (place su d n ys)
+  pub same_place : (m : Meant C) (n : Meant D) (xs : List (Suffix (Meant C))) (ys : List (Suffix (Meant D))) → Alike name m n → Each AlikeSuffix xs ys → SameSteps name (place st c m xs) (place su d n ys)
   same_place m n xs ys h k = let f = front_alike m n xs ys h k in same_next name _ _ _ _ f.0 (same_parts (front st c m xs).1 (front su d n ys).1 f.1)
 
   -- ---- each form, over parts that mean the same

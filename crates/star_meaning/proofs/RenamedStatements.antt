@@ -29,7 +29,7 @@ use Rattle.star_meaning.specs.World.{World, Work, Fault, Course, acting, write, 
 use Rattle.star_meaning.specs.Expressions.{Setting, Callee, meant, naming, tests_value, values}
 use Rattle.star_meaning.specs.Statements.{Doing, Filled, after_turn, all_meant, block_of, body_of, branches_of, call_to, condition_of, default_weight, defined, echo, echo_at, echo_if, else_of, ended, filled, for_turns, go_on, in_sequence, iterated, kind_of, layer_of, line_of, local_block, operator, parameters_of, repeated, result_of, returned, run_body, run_defined, run_filled, run_function, small_of, statement_of, then_on}
 use Rattle.star_meaning.specs.Validity.{renamed}
-use Rattle.star_meaning.specs.Renaming.{Names, under, world_as, outcome_as, SameAt, SameSteps, SameSetting, SameCallee, SameMeant}
+use Rattle.star_meaning.specs.Renaming.{Names, under, world_as, outcome_as, SameSteps, SameSetting, SameCallee, SameMeant}
 use Rattle.star_meaning.specs.Growing.{Leads}
 use Rattle.star_meaning.proofs.Renamed.{get_same}
 use Rattle.star_meaning.proofs.RenamedShowing.{same_items_of, same_joined, same_made, same_new_function, same_quoted}
@@ -65,7 +65,7 @@ module _ {C D : Type 0} (name : Names C D) where
   same_after_turn p q h flow.Break = same_going name flow.On
   same_after_turn p q h (flow.Return v) = same_going name (flow.Return v)
 
-  same_for_turns : (f : Value → Course C (Unit {0})) (g : Value → Course D (Unit {0})) (p : Course C Flow) (q : Course D Flow) → ((v : Value) → SameSteps name (f v) (g v)) → SameSteps name p q → (xs : List Value)
+  pub same_for_turns : (f : Value → Course C (Unit {0})) (g : Value → Course D (Unit {0})) (p : Course C Flow) (q : Course D Flow) → ((v : Value) → SameSteps name (f v) (g v)) → SameSteps name p q → (xs : List Value)
       → SameSteps name (for_turns f p xs) (for_turns g q xs)
   same_for_turns f g p q h k [] = same_going name flow.On
   same_for_turns f g p q h k (x ∷ xs) = same_next name _ _ _ _ (same_next name _ _ _ _ (h x) (λ _. k)) (same_after_turn _ _ (same_for_turns f g p q h k xs))
@@ -94,11 +94,11 @@ module _ {C D : Type 0} (name : Names C D) where
     same_of : (e : Expr) → SameMeant name (meant st c e) (meant su d e)
     same_of = same_meant name st su same_st c d same_callee
 
-    each_meant : (es : List Expr) → Each (Alike name) (all_meant st c es) (all_meant su d es)
+    pub each_meant : (es : List Expr) → Each (Alike name) (all_meant st c es) (all_meant su d es)
     each_meant [] = tt
     each_meant (e ∷ es) = (same_of e, each_meant es)
 
-    same_tests : (es : List Expr) → SameSteps name (tests_value (all_meant st c es)) (tests_value (all_meant su d es))
+    pub same_tests : (es : List Expr) → SameSteps name (tests_value (all_meant st c es)) (tests_value (all_meant su d es))
     same_tests es = same_tests_value name _ _ (each_meant es)
 
     -- ---- small statements
@@ -119,23 +119,25 @@ module _ {C D : Type 0} (name : Names C D) where
     same_echo_at (Value-F.Function id) v = same_written v
     same_echo_at (Value-F.Builtin which) v = same_written v
 
-    same_echo_if : (b : Bool) (v : Value) → SameSteps name (echo_if st c b v) (echo_if su d b v)
+    pub same_echo_if : (b : Bool) (v : Value) → SameSteps name (echo_if st c b v) (echo_if su d b v)
     unfolding echo
     same_echo_if true v = same_echo_at (out-Value v) v
     same_echo_if false v = same_going name tt
 
-    same_returned : (es : List Expr) → SameSteps name (returned st c (all_meant st c es)) (returned su d (all_meant su d es))
+    pub same_returned : (es : List Expr) → SameSteps name (returned st c (all_meant st c es)) (returned su d (all_meant su d es))
     same_returned [] = same_going name value.None
     same_returned (e ∷ es) = same_tests (e ∷ es)
 
-    same_operator : (o : BinaryOp) (x y : Value) → SameSteps name (operator st c o x y) (operator su d o x y)
-    same_operator o x y = record { at = λ w.
-        let same = same_operate_at name _ _ w (same_augmented (under name w.frame.locked) (naming st) (naming su) (naming_as name st su same_st c d same_callee) o x y) in record { holds = same.holds; leads = same.leads } }
+    pub same_operator : (o : BinaryOp) (x y : Value) → SameSteps name (operator st c o x y) (operator su d o x y)
+    same_operator o x y = record {
+      at = λ w.
+          let same = same_operate_at name _ _ w (same_augmented (under name w.frame.locked) (naming st) (naming su) (naming_as name st su same_st c d same_callee) o x y) in record { holds = same.holds; leads = same.leads };
+    }
 
     same_then_on : {A : Type 0} (p : Work C A) (q : Work D A) → SameSteps name p q → SameSteps name (then_on st c p) (then_on su d q)
     same_then_on p q h = same_next name _ _ _ _ h (λ _. same_going name flow.On)
 
-    same_kind_of : (last : Bool) (k : SmallKind) → SameSteps name (kind_of st c last k) (kind_of su d last k)
+    pub same_kind_of : (last : Bool) (k : SmallKind) → SameSteps name (kind_of st c last k) (kind_of su d last k)
     unfolding kind_of
     same_kind_of last (small.Return tests) = same_next name _ _ _ _ (same_returned tests) (λ v. same_going name (flow.Return v))
     same_kind_of last small.Break = same_going name flow.Break
@@ -145,22 +147,22 @@ module _ {C D : Type 0} (name : Names C D) where
     same_kind_of last (small.Augmented target o tests) = same_then_on _ _ ((same_of target).update _ _ (λ old. same_next name _ _ _ _ (same_tests tests) (same_operator o old)))
     same_kind_of last (small.Tests tests) = same_then_on _ _ (same_next name _ _ _ _ (same_tests tests) (same_echo_if last))
 
-    same_small_of : (last : Bool) (s : Small) → SameSteps name (small_of st c last s) (small_of su d last s)
+    pub same_small_of : (last : Bool) (s : Small) → SameSteps name (small_of st c last s) (small_of su d last s)
     unfolding small_of
     same_small_of last s = same_located name s.line _ _ (same_next name _ _ _ _ (same_charging name 1) (λ _. same_kind_of last s.kind))
 
-    same_line_of : (last : Bool) (line : Line) → SameSteps name (line_of st c last line) (line_of su d last line)
+    pub same_line_of : (last : Bool) (line : Line) → SameSteps name (line_of st c last line) (line_of su d last line)
     same_line_of last line = same_in_sequence _ _ same_small_of last line.smalls
 
     -- ---- statements with blocks
 
-    same_condition : (at : ℕ) (e : Expr) → SameSteps name (condition_of st c at e) (condition_of su d at e)
+    pub same_condition : (at : ℕ) (e : Expr) → SameSteps name (condition_of st c at e) (condition_of su d at e)
     same_condition at e = same_located name at _ _ (same_next name _ _ _ _ (same_of e).value (same_truth name))
 
-    same_iterated : (over : List Expr) → SameSteps name (iterated st c over) (iterated su d over)
+    pub same_iterated : (over : List Expr) → SameSteps name (iterated st c over) (iterated su d over)
     same_iterated over = same_next name _ _ _ _ (same_tests over) (λ v. same_next name _ _ _ _ (same_acting name _ _ (λ locked. same_items_of (under name locked) v)) (λ items. same_going name (v, items)))
 
-    same_repeated : (at : ℕ) (targets : List Expr) (p : Course C Flow) (q : Course D Flow) → SameSteps name p q → (over : Value × List Value) → SameSteps name (repeated st c at targets p over) (repeated su d at targets q over)
+    pub same_repeated : (at : ℕ) (targets : List Expr) (p : Course C Flow) (q : Course D Flow) → SameSteps name p q → (over : Value × List Value) → SameSteps name (repeated st c at targets p over) (repeated su d at targets q over)
     unfolding repeated
     same_repeated at targets p q h over =
         same_locking name (lock_of over.0) _ _ (same_for_turns _ _ p q (λ x. same_located name at _ _ (same_next_item name _ _ (each_meant targets) x)) h over.1)
@@ -175,7 +177,7 @@ module _ {C D : Type 0} (name : Names C D) where
     abbrev defined_by : {X : Type 0} → Setting X → Callee X → List ℕ → List (Named Expr) → ℕ → Work X (Unit {0})
     defined_by sx x n ns number = values (map (λ o. meant sx x o.value) ns) >>= (λ vs. acting (new_function sx.cell number vs) >>= bind n)
 
-    same_defined : (x : Definition (Doing C)) (y : Definition (Doing D)) (number : ℕ) → y.name ≡ x.name → y.defaults ≡ x.defaults → SameSteps name (defined st c x number) (defined su d y number)
+    pub same_defined : (x : Definition (Doing C)) (y : Definition (Doing D)) (number : ℕ) → y.name ≡ x.name → y.defaults ≡ x.defaults → SameSteps name (defined st c x number) (defined su d y number)
     unfolding defined
     same_defined x y number h k =
         subst (λ n. SameSteps name (defined_by st c x.name x.defaults number) (defined_by su d n y.defaults number)) (sym h)
@@ -259,13 +261,13 @@ module _ {C D : Type 0} (name : Names C D) where
     same_statement =
         ind-Statement (λ s. SameDoing (statement_of st c s) (statement_of su d s)) (λ x y is. subst (λ z. SameDoing (statement_of st c (roll-Statement z)) (statement_of su d (roll-Statement z))) is (rolled_same _ (layer_same y)))
 
-    same_body : (b : Block Statement) → SameSteps name (body_of st c b) (body_of su d b)
+    pub same_body : (b : Block Statement) → SameSteps name (body_of st c b) (body_of su d b)
     same_body (blocks.Inline line) = same_line_of false line
     same_body (blocks.Indented ss) = same_in_sequence _ _ (λ last s. same_statement s false None) false ss
 
     -- ---- calls of functions
 
-    same_run_body : (def : Definition Statement) (id : ℕ) (all : List Filled) → SameSteps name (run_body st c def id all) (run_body su d def id all)
+    pub same_run_body : (def : Definition Statement) (id : ℕ) (all : List Filled) → SameSteps name (run_body st c def id all) (run_body su d def id all)
     unfolding run_body
     same_run_body def id all =
         same_next name _ _ _ _ (same_charging name (sum (map default_weight all))) (λ _. same_in_function name id (local_block def all) _ _ (same_result_of _ _ (same_body def.body)))
@@ -274,11 +276,11 @@ module _ {C D : Type 0} (name : Names C D) where
     same_run_filled def id None = same_failing name failure.WrongArguments
     same_run_filled def id (Some all) = same_run_body def id all
 
-    same_run_defined : (id : ℕ) (defaults : List Value) (o : Option (Definition Statement)) (vs : List Value) (n : ByName) → SameSteps name (run_defined st c id defaults o vs n) (run_defined su d id defaults o vs n)
+    pub same_run_defined : (id : ℕ) (defaults : List Value) (o : Option (Definition Statement)) (vs : List Value) (n : ByName) → SameSteps name (run_defined st c id defaults o vs n) (run_defined su d id defaults o vs n)
     same_run_defined id defaults None vs n = same_failing name failure.WrongType
     same_run_defined id defaults (Some def) vs n = same_run_filled def id (filled (parameters_of def defaults) vs n)
 
-    same_run_function : (id : ℕ) (o : Option (Object C)) (vs : List Value) (n : ByName)
+    pub same_run_function : (id : ℕ) (o : Option (Object C)) (vs : List Value) (n : ByName)
         → SameSteps name (run_function st c id (function_held o) vs n) (run_function su d id (function_held (option_map (renamed name.to) o)) vs n)
     same_run_function id None vs n = same_failing name failure.WrongType
     same_run_function id (Some (AList items)) vs n = same_failing name failure.WrongType
@@ -291,8 +293,10 @@ module _ {C D : Type 0} (name : Names C D) where
   pub same_call_to : (st : Setting C) (su : Setting D) → SameSetting name st su → (n : ℕ) → SameCallee name (call_to st n) (call_to su n)
   unfolding call_to function object
   same_call_to st su h zero id vs by = same_failing name failure.TooManyCalls
-  same_call_to st su h (suc n) id vs by = record { at = λ w.
-      let same = (same_run_function st su h (call_to st n) (call_to su n) (same_call_to st su h n) id (slice_get w.store.state.objects id) vs by).at w in record {
-        holds = ap (λ o. run_function su (call_to su n) id (function_held o) vs by (world_as name.to w)) (get_same name.to w.store.state.objects id) ∙ same.holds;
-        leads = same.leads;
-      } }
+  same_call_to st su h (suc n) id vs by = record {
+    at = λ w.
+        let same = (same_run_function st su h (call_to st n) (call_to su n) (same_call_to st su h n) id (slice_get w.store.state.objects id) vs by).at w in record {
+          holds = ap (λ o. run_function su (call_to su n) id (function_held o) vs by (world_as name.to w)) (get_same name.to w.store.state.objects id) ∙ same.holds;
+          leads = same.leads;
+        };
+  }

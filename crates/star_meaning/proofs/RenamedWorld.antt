@@ -5,7 +5,7 @@ use Rattle.star_value.specs.declared.failure.Failure.{Failure}
 use Rattle.star_value.specs.declared.failure.Failure.TheVariants as failure
 use Rattle.star_value.specs.declared.value.Value.{Value}
 use Rattle.star_value.specs.Weight.{weight}
-use Rattle.star_meaning.specs.State.{Object, State, global, set_global}
+use Rattle.star_meaning.specs.State.{State, global, set_global}
 use Rattle.star_meaning.specs.Steps.{Outcome, Went, Failed, Steps, Store, Action, and_then, ◌>>=◌, pure, fail, given_or, charge}
 use Rattle.star_meaning.specs.World.{Block, Frame, World, Work, acting, bind, binding, in_block, in_function, left_block, located, located_at, locking, look_up, operate, operation, put_back, reading, slot_of, turns, unlocked, value_in, with_frame, with_store, write}
 use Rattle.star_meaning.specs.Renaming.{Names, state_as, store_as, under, world_as, outcome_as, Same, SameAt, SameSteps}
@@ -82,10 +82,12 @@ module _ {C D : Type 0} (name : Names C D) where
 
     pub same_locking : {A : Type 0} (ids : List ℕ) (p : Steps (World C) E A) (q : Steps (World D) E A) → SameSteps name p q → SameSteps name (locking ids p) (locking ids q)
     unfolding locking
-    same_locking ids p q h = record { at = λ w. let v = with_frame (record w.frame { locked = w.frame.locked ++ ids }) w in record {
-      holds = ap (unlocked w.frame.locked) (h.at v).holds ∙ unlocked_at w.frame.locked (p v);
-      leads = leads_unlocked name.here ids w (p v) (h.at v).leads;
-    } }
+    same_locking ids p q h = record {
+      at = λ w. let v = with_frame (record w.frame { locked = w.frame.locked ++ ids }) w in record {
+        holds = ap (unlocked w.frame.locked) (h.at v).holds ∙ unlocked_at w.frame.locked (p v);
+        leads = leads_unlocked name.here ids w (p v) (h.at v).leads;
+      };
+    }
 
   stored_at : {A : Type 0} (w : World C) (o : Outcome (Store C) Failure A) → with_store (world_as name.to w) (outcome_as (store_as name.to) o) ≡ outcome_as (world_as name.to) (with_store w o)
   stored_at w (Went a s) = refl
@@ -139,10 +141,12 @@ module _ {C D : Type 0} (name : Names C D) where
 
   pub same_look_up : (n : List ℕ) → SameSteps name (look_up n) (look_up n)
   unfolding look_up
-  same_look_up n = record { at = λ w. let o = value_in w.store.state n (slot_of w.frame.blocks n) in record {
-    holds = ap (λ o. given_or failure.Unbound o (world_as name.to w)) (value_as w.store.state n (slot_of w.frame.blocks n)) ∙ given_as o w;
-    leads = leads_given name.here o w;
-  } }
+  same_look_up n = record {
+    at = λ w. let o = value_in w.store.state n (slot_of w.frame.blocks n) in record {
+      holds = ap (λ o. given_or failure.Unbound o (world_as name.to w)) (value_as w.store.state n (slot_of w.frame.blocks n)) ∙ given_as o w;
+      leads = leads_given name.here o w;
+    };
+  }
 
   bound_as : (o : Option (Option Value)) (n : List ℕ) (v : Value) (w : World C) → binding o n v (world_as name.to w) ≡ world_as name.to (binding o n v w)
   unfolding set_global
@@ -163,17 +167,21 @@ module _ {C D : Type 0} (name : Names C D) where
 
   pub same_in_block : {A : Type 0} (block : Block) (p : Work C A) (q : Work D A) → SameSteps name p q → SameSteps name (in_block block p) (in_block block q)
   unfolding in_block
-  same_in_block block p q h = record { at = λ w. let v = with_frame (record w.frame { blocks = block ∷ w.frame.blocks }) w in record {
-    holds = ap left_block (h.at v).holds ∙ left_block_at (p v);
-    leads = leads_left name.here (block ∷ w.frame.blocks) w (p v) (h.at v).leads;
-  } }
+  same_in_block block p q h = record {
+    at = λ w. let v = with_frame (record w.frame { blocks = block ∷ w.frame.blocks }) w in record {
+      holds = ap left_block (h.at v).holds ∙ left_block_at (p v);
+      leads = leads_left name.here (block ∷ w.frame.blocks) w (p v) (h.at v).leads;
+    };
+  }
 
   pub same_in_function : {A : Type 0} (id : ℕ) (block : Block) (p : Work C A) (q : Work D A) → SameSteps name p q → SameSteps name (in_function id block p) (in_function id block q)
   unfolding in_function
-  same_in_function id block p q h = record { at = λ w. let v = with_frame (record { blocks = block ∷ []; active = w.frame.active ++ id ∷ []; locked = w.frame.locked }) w in record {
-    holds = ap (put_back w.frame) (h.at v).holds ∙ put_back_at w.frame (p v);
-    leads = leads_put_back name.here (block ∷ []) (w.frame.active ++ id ∷ []) w (p v) (h.at v).leads;
-  } }
+  same_in_function id block p q h = record {
+    at = λ w. let v = with_frame (record { blocks = block ∷ []; active = w.frame.active ++ id ∷ []; locked = w.frame.locked }) w in record {
+      holds = ap (put_back w.frame) (h.at v).holds ∙ put_back_at w.frame (p v);
+      leads = leads_put_back name.here (block ∷ []) (w.frame.active ++ id ∷ []) w (p v) (h.at v).leads;
+    };
+  }
 
   pub same_turns : {A : Type 0} (f : Value → A → Work C A) (g : Value → A → Work D A) → ((v : Value) (a : A) → SameSteps name (f v a) (g v a)) → (xs : List Value) (a : A) → SameSteps name (turns f xs a) (turns g xs a)
   same_turns f g h [] a = same_going a

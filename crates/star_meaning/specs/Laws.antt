@@ -1,18 +1,23 @@
 -- Laws of running.
-use Rattle.std.specs.Prelude.{◌≡◌, ◌<◌, ◌+◌, ◌-◌, ℕ, suc, List, [], ◌∷◌, ◌++◌, length}
+use Rattle.std.specs.Prelude.{◌≡◌, ◌<◌, ◌≤◌, ◌+◌, ◌-◌, ℕ, suc, Bool, List, [], ◌∷◌, ◌++◌, length, Option, Some, IsTrue}
 use Rattle.chex_base.specs.declared.input.Input.{Input}
 use Rattle.star_syntax.specs.declared.cell.Program.{Program}
+use Rattle.star_syntax.specs.declared.expression.Expr.{Expr}
+use Rattle.star_syntax.specs.declared.statement.Block.{Block as Body}
+use Rattle.star_syntax.specs.declared.statement.Statement.{Statement}
 use Rattle.star_syntax.specs.CellParts.{CellParts}
 use Rattle.star_value.specs.declared.failure.Failure.TheVariants.{TooManyCalls}
 use Rattle.star_value.specs.declared.value.Value.{Value}
+use Rattle.star_meaning.specs.State.{Object, object}
 use Rattle.star_meaning.specs.Steps.{Failed}
+use Rattle.star_meaning.specs.Values.{has}
 use Rattle.star_meaning.specs.Builtins.{ByName}
 use Rattle.star_meaning.specs.State.{State, function}
 use Rattle.star_meaning.specs.World.{Block, Frame, World, entered, start}
-use Rattle.star_meaning.specs.Expressions.{Setting}
-use Rattle.star_meaning.specs.Statements.{call_to, run_function}
+use Rattle.star_meaning.specs.Expressions.{Setting, meant}
+use Rattle.star_meaning.specs.Statements.{body_of, call_to, run_function, statement_of}
 use Rattle.star_meaning.specs.Cells.{Shown, ran}
-use Rattle.star_meaning.specs.Growing.{Grown}
+use Rattle.star_meaning.specs.Growing.{Grown, IfWent, IsBack, reached}
 use Rattle.star_meaning.specs.Renaming.{state_as}
 use Rattle.star_meaning.specs.Validity.{MachineState, after, cell_of, ran_at, run_at, shown}
 
@@ -50,3 +55,40 @@ pub record CallsAreFew : Type 0 where
       → call_to setting n id vs named w ≡ Failed TooManyCalls w
   pub others_run : (setting : Setting CellParts) (n id : ℕ) (vs : List Value) (named : ByName) (w : World CellParts) → length w.frame.active + n ≡ 32 → length w.frame.active < 32
       → call_to setting n id vs named w ≡ run_function setting (call_to setting (n - 1)) id (function w.store.state id) vs named w
+
+-- ---- the parts of a cell that runs, in any setting, while so many more functions may become active
+
+-- where each part leads from a world, also where it fails: an expression, what is stored in a target, a statement, the body of
+-- a function, and a call of a function
+pub record EachReaches (C : Type 0) (holds : World C → World C → Type 0) : Type 0 where
+  pub value : (setting : Setting C) (n : ℕ) (e : Expr) (w : World C) → holds w (reached ((meant setting (call_to setting n) e).value w))
+  pub store : (setting : Setting C) (n : ℕ) (e : Expr) (v : Value) (w : World C) → holds w (reached ((meant setting (call_to setting n) e).store v w))
+  pub statement : (setting : Setting C) (n : ℕ) (s : Statement) (last : Bool) (number : Option ℕ) (w : World C) → holds w (reached (statement_of setting (call_to setting n) s last number w))
+  pub body : (setting : Setting C) (n : ℕ) (b : Body Statement) (w : World C) → holds w (reached (body_of setting (call_to setting n) b w))
+  pub call : (setting : Setting C) (n : ℕ) (id : ℕ) (vs : List Value) (named : ByName) (w : World C) → holds w (reached (call_to setting n id vs named w))
+
+-- and where it ends without a failure
+pub record EachEnds (C : Type 0) (holds : World C → World C → Type 0) : Type 0 where
+  pub value : (setting : Setting C) (n : ℕ) (e : Expr) (w : World C) → IfWent ((meant setting (call_to setting n) e).value w) (holds w)
+  pub store : (setting : Setting C) (n : ℕ) (e : Expr) (v : Value) (w : World C) → IfWent ((meant setting (call_to setting n) e).store v w) (holds w)
+  pub statement : (setting : Setting C) (n : ℕ) (s : Statement) (last : Bool) (number : Option ℕ) (w : World C) → IfWent (statement_of setting (call_to setting n) s last number w) (holds w)
+  pub body : (setting : Setting C) (n : ℕ) (b : Body Statement) (w : World C) → IfWent (body_of setting (call_to setting n) b w) (holds w)
+  pub call : (setting : Setting C) (n : ℕ) (id : ℕ) (vs : List Value) (named : ByName) (w : World C) → IfWent (call_to setting n id vs named w) (holds w)
+
+-- steps are only spent
+abbrev pub StepsAreSpent : Type 0 → Type 0
+StepsAreSpent C = EachReaches C (λ w v. v.store.left ≤ w.store.left)
+
+-- a cell takes at least one step, and no more than are allowed
+abbrev pub CellsTakeSteps : Type 0
+CellsTakeSteps = (s : Shown) (cell : CellParts) (inputs : List (List ℕ × Input)) (allowance : ℕ)
+    → 1 ≤ allowance → (1 ≤ (ran s cell inputs allowance).0.steps) × ((ran s cell inputs allowance).0.steps ≤ allowance)
+
+-- a list or dict that is iterated over stays what it is
+abbrev pub WhatIsLockedStays : Type 0 → Type 0
+WhatIsLockedStays C =
+    EachReaches C (λ w v. (id : ℕ) (o : Object C) → IsTrue (has w.frame.locked id) → object w.store.state id ≡ Some o → object v.store.state id ≡ Some o)
+
+-- the same functions are active again, and the same lists and dicts are iterated over
+abbrev pub FramesComeBack : Type 0 → Type 0
+FramesComeBack C = EachEnds C (λ w v. IsBack w.frame v.frame)

@@ -1,4 +1,6 @@
 //! Laws of running, as the contracts of functions.
+ghost use Rattle.std.specs.Prelude.{ℕ};
+ghost use Rattle.star_syntax.specs.CellParts.{CellParts};
 ghost use Rattle.star_meaning.specs.Laws as laws;
 
 /// No meaning depends on how cells are numbered.
@@ -32,4 +34,23 @@ pub fn functions_stay()
 #[tactic(auto, using(crate::proofs::FewCalls::calls_are_few))]
 pub fn calls_are_few()
     ensures { laws.CallsAreFew }
+{}
+
+/// Steps are only spent, in shown states and in a machine's. A cell takes at least one step, and no
+/// more than are allowed.
+#[tactic(auto, using(crate::proofs::LeadingLaws::spent_shown, crate::proofs::LeadingLaws::spent_numbered, crate::proofs::LeadingLaws::cells_take_steps))]
+pub fn steps_are_spent()
+    ensures shown { laws.StepsAreSpent CellParts }
+    ensures numbered { laws.StepsAreSpent ℕ }
+    ensures cell { laws.CellsTakeSteps }
+{}
+
+/// A list or dict that is iterated over stays what it is. Where a part of a cell does not fail, the
+/// same functions are active after it as before, and the same lists and dicts are iterated over.
+#[tactic(auto, using(crate::proofs::LeadingLaws::locked_shown, crate::proofs::LeadingLaws::locked_numbered, crate::proofs::LeadingLaws::back_shown, crate::proofs::LeadingLaws::back_numbered))]
+pub fn what_is_locked_stays()
+    ensures shown { laws.WhatIsLockedStays CellParts }
+    ensures numbered { laws.WhatIsLockedStays ℕ }
+    ensures frames_shown { laws.FramesComeBack CellParts }
+    ensures frames_numbered { laws.FramesComeBack ℕ }
 {}
