@@ -225,7 +225,7 @@ module _ {C : Type 0} (setting : Setting C) (call : Callee C) where
   meant_roll x = fold-roll-Expr (Meant C) (step setting call) x
 
   -- the clauses of a comprehension, each with the meaning of its parts
-  abbrev clause_meant : Clause Expr → Clause (Meant C)
+  abbrev pub clause_meant : Clause Expr → Clause (Meant C)
   clause_meant (clause.For targets over) = clause.For (map (meant setting call) targets) (meant setting call over)
   clause_meant (clause.If condition) = clause.If (meant setting call condition)
 

@@ -28,6 +28,7 @@ use Rattle.star_meaning.specs.Statements.{Filled, body_of, call_to, condition_of
 use Rattle.star_meaning.specs.Cells.{statements_from}
 use Rattle.star_meaning.specs.Renaming.{Names, SameSetting, SameCallee, SameMeant}
 use Rattle.star_meaning.proofs.Alone.{LeadsOn, leads_alone, leads_of, own}
+use Rattle.star_meaning.proofs.Equations.{clause_meant}
 use Rattle.star_meaning.proofs.Forms.{link_meant, named_meant, pair_meant, suffix_meant}
 use Rattle.star_meaning.proofs.RenamedExpressions.{Each, Both, Alike, AlikeClause, AlikeNamed, AlikePair, same_clauses_from, same_comprehension, same_display_pairs, same_loop_over, same_method_called, same_next_item, same_store_at, same_store_in, same_tests_value, same_values}
 use Rattle.star_meaning.proofs.RenamedForms.{AlikeLink, AlikeSuffix, front_alike, same_called, same_chained, same_meant, same_named_values, same_parts, same_place, same_read_input, same_suffix_value, same_suffixed}
@@ -78,15 +79,11 @@ module _ {C : Type 0} (setting : Setting C) (n : ℕ) where
   named_of [] = tt
   named_of (x ∷ xs) = (record { name_is = refl; value_is = of x.value }, named_of xs)
 
-  abbrev pub clause_meant : Clause Expr → Clause (Meant C)
-  clause_meant (clause.For targets over) = clause.For (map (meant setting call) targets) (meant setting call over)
-  clause_meant (clause.If condition) = clause.If (meant setting call condition)
-
-  clause_of : (x : Clause Expr) → AlikeClause ours (clause_meant x) (clause_meant x)
+  clause_of : (x : Clause Expr) → AlikeClause ours (clause_meant setting call x) (clause_meant setting call x)
   clause_of (clause.For targets over) = (all_of targets, of over)
   clause_of (clause.If condition) = of condition
 
-  clauses_of : (xs : List (Clause Expr)) → Each (AlikeClause ours) (map clause_meant xs) (map clause_meant xs)
+  clauses_of : (xs : List (Clause Expr)) → Each (AlikeClause ours) (map (clause_meant setting call) xs) (map (clause_meant setting call) xs)
   clauses_of [] = tt
   clauses_of (x ∷ xs) = (clause_of x, clauses_of xs)
 
@@ -163,10 +160,10 @@ module _ {C : Type 0} (setting : Setting C) (n : ℕ) where
   next_item_leads es v = leads_of setting.cell _ _ (same_next_item ours _ _ (all_of es) v)
 
   module _ {A : Type 0} (inner : A → Work C A) (inner_leads : (a : A) → Leading (inner a)) where
-    pub clauses_leads : (xs : List (Clause Expr)) (a : A) → Leading (clauses_from (map clause_meant xs) inner a)
+    pub clauses_leads : (xs : List (Clause Expr)) (a : A) → Leading (clauses_from (map (clause_meant setting call) xs) inner a)
     clauses_leads xs a = leads_of setting.cell _ _ (same_clauses_from ours inner inner (λ b. leads_alone setting.cell (inner b) (inner_leads b)) _ _ (clauses_of xs) a)
 
-    pub comprehension_leads : (xs : List (Clause Expr)) (a : A) → Leading (comprehension (map clause_meant xs) inner a)
+    pub comprehension_leads : (xs : List (Clause Expr)) (a : A) → Leading (comprehension (map (clause_meant setting call) xs) inner a)
     comprehension_leads xs a = leads_of setting.cell _ _ (same_comprehension ours inner inner (λ b. leads_alone setting.cell (inner b) (inner_leads b)) _ _ (clauses_of xs) a)
 
   pub loop_leads : {A : Type 0} (turn : Value → A → Work C A) → ((v : Value) (a : A) → Leading (turn v a)) → (v : Value) (a : A) → Leading (loop_over turn v a)

@@ -22,3 +22,4 @@ pub mod RenamedForms
 pub mod RenamedStatements
 pub mod RenamedCells
 pub mod Sequences
+pub mod TargetNames

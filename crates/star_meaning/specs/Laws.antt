@@ -8,13 +8,12 @@ use Rattle.star_syntax.specs.declared.statement.Statement.{Statement}
 use Rattle.star_syntax.specs.CellParts.{CellParts}
 use Rattle.star_value.specs.declared.failure.Failure.TheVariants.{TooManyCalls}
 use Rattle.star_value.specs.declared.value.Value.{Value}
-use Rattle.star_meaning.specs.State.{Object, object}
+use Rattle.star_meaning.specs.State.{Object, State, function, object}
 use Rattle.star_meaning.specs.Steps.{Failed}
 use Rattle.star_meaning.specs.Values.{has}
 use Rattle.star_meaning.specs.Builtins.{ByName}
-use Rattle.star_meaning.specs.State.{State, function}
 use Rattle.star_meaning.specs.World.{Block, Frame, World, entered, start}
-use Rattle.star_meaning.specs.Expressions.{Setting, meant}
+use Rattle.star_meaning.specs.Expressions.{Callee, Setting, meant, target_names}
 use Rattle.star_meaning.specs.Statements.{body_of, call_to, run_function, statement_of}
 use Rattle.star_meaning.specs.Cells.{Shown, ran}
 use Rattle.star_meaning.specs.Growing.{Grown, IfWent, IsBack, reached}
@@ -92,3 +91,7 @@ WhatIsLockedStays C =
 -- the same functions are active again, and the same lists and dicts are iterated over
 abbrev pub FramesComeBack : Type 0 → Type 0
 FramesComeBack C = EachEnds C (λ w v. IsBack w.frame v.frame)
+
+-- the names that a meaning binds as a target are those of its tree
+abbrev pub TargetsBindTheirNames : Type 0
+TargetsBindTheirNames = (setting : Setting CellParts) (call : Callee CellParts) (e : Expr) → (meant setting call e).names ≡ target_names e

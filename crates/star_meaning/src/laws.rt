@@ -54,3 +54,9 @@ pub fn what_is_locked_stays()
     ensures frames_shown { laws.FramesComeBack CellParts }
     ensures frames_numbered { laws.FramesComeBack ℕ }
 {}
+
+/// The names that a meaning binds as a target are those of its tree.
+#[tactic(auto, using(crate::proofs::TargetNames::shown_names))]
+pub fn targets_bind_their_names()
+    ensures { laws.TargetsBindTheirNames }
+{}
