@@ -8,6 +8,8 @@
 #[cfg(test)]
 mod lexer;
 #[cfg(test)]
+mod long_sources;
+#[cfg(test)]
 mod parser;
 #[cfg(test)]
 mod placement;

@@ -5,7 +5,7 @@ use sqlite_items::{Boxed, Items};
 use star_resolver::{ResolveFault, ResolveKind, resolve};
 use star_syntax::{
     Arguments, Block, Branch, Clause, Def, Expr, Line, Module, Named, Small, SmallKind, Statement,
-    Suffix,
+    Statements, Suffix,
 };
 use std::alloc::Global;
 use std::test::Fail;
@@ -136,7 +136,7 @@ fn function(
 
 fn cell(alloc: Global, first: Statement, second: Statement) -> Result<Module, NoMemory> {
     Ok(Module {
-        statements: two(alloc, first, second)?,
+        statements: Statements::new(alloc, two(alloc, first, second)?)?,
     })
 }
 
@@ -426,7 +426,7 @@ fn a_cell_has_its_parts(rt: HostRuntime) -> Result<(), Fail> {
         }
     };
     assert_eq!(rt; cell.source().as_str(), "def f");
-    assert_eq!(rt; cell.module().statements.len(), 2);
+    assert_eq!(rt; cell.module().statements.as_slice().len(), 2);
     assert_eq!(rt; cell.inputs().as_slice().len(), 2);
     let function = cell.function(0).ok_or("no function")?;
     assert_eq!(rt; function.name.as_str(), "f");

@@ -3,12 +3,18 @@
 use chex_base::{NoMemory, NodeId, Text};
 use sqlite_items::{Boxed, Items};
 use star_syntax::{
-    Arguments, BinaryOp, Block, Branch, Cell, Cells, ChainLevel, ChainOp, Clause, CompareOp,
+    Arguments, Arm, BinaryOp, Block, Branch, Cell, Cells, ChainLevel, ChainOp, Clause, CompareOp,
     Definition, Expr, Keyword, Line, Link, Mark, Module, Named, Names, Pair, Program, Small,
-    SmallKind, Statement, Suffix, Token, UnaryOp, spell,
+    SmallKind, Statement, Statements, Suffix, Token, UnaryOp, spell,
 };
 use std::alloc::Global;
 use std::test::Fail;
+
+fn module(alloc: Global, statements: Items<Statement>) -> Result<Module, NoMemory> {
+    Ok(Module {
+        statements: Statements::new(alloc, statements)?,
+    })
+}
 
 fn text(alloc: Global, text: &str) -> Result<Text, NoMemory> {
     Text::from_str(alloc, text)
@@ -82,9 +88,10 @@ fn made(alloc: Global) -> Result<Module, NoMemory> {
         one(alloc, Suffix::Index(Expr::Int(0)))?,
     );
     let second = SmallKind::Tests(one(alloc, call(alloc, "print", two(alloc, len, at)?)?)?);
-    Ok(Module {
-        statements: two(alloc, line(alloc, 1, first)?, line(alloc, 2, second)?)?,
-    })
+    module(
+        alloc,
+        two(alloc, line(alloc, 1, first)?, line(alloc, 2, second)?)?,
+    )
 }
 
 /// A function with a default, a `for` in it, and branches in that.
@@ -119,9 +126,7 @@ fn nested(alloc: Global) -> Result<Module, NoMemory> {
         comma: true,
         body: Block::Indented(two(alloc, turns, back)?),
     };
-    Ok(Module {
-        statements: one(alloc, Statement::Def(1, def))?,
-    })
+    module(alloc, one(alloc, Statement::Def(1, def))?)
 }
 
 /// `x += -~a if not not b else c not in True; (y,) = (x), "t"; {a: b, a: b,};`
@@ -132,12 +137,11 @@ fn operators(alloc: Global) -> Result<Module, NoMemory> {
     );
     let truth = Boxed::new(alloc, Expr::True)?;
     let outside = Expr::Compare(boxed(alloc, "c")?, CompareOp::NotWithin, truth);
-    let nots = Boxed::new(alloc, Expr::Not(2, boxed(alloc, "b")?))?;
-    let choice = Expr::Conditional(
-        Boxed::new(alloc, signed)?,
-        nots,
-        Boxed::new(alloc, outside)?,
-    );
+    let arm = Arm {
+        value: signed,
+        condition: Expr::Not(2, boxed(alloc, "b")?),
+    };
+    let choice = Expr::Conditional(one(alloc, arm)?, Boxed::new(alloc, outside)?);
     let first = SmallKind::Augmented(name(alloc, "x")?, BinaryOp::Add, one(alloc, choice)?);
     let pair = Expr::Tuple(one(alloc, name(alloc, "y")?)?, true);
     let values = two(
@@ -170,15 +174,11 @@ fn operators(alloc: Global) -> Result<Module, NoMemory> {
         line: 1,
         kind: third,
     })?;
-    Ok(Module {
-        statements: one(
-            alloc,
-            Statement::Line(Line {
-                smalls,
-                semicolon: true,
-            }),
-        )?,
-    })
+    let line = Statement::Line(Line {
+        smalls,
+        semicolon: true,
+    });
+    module(alloc, one(alloc, line)?)
 }
 
 /// `t.m(a, k=b)[:a:][a:]` and `{a: b for i in a if b}`
@@ -206,9 +206,7 @@ fn suffixes(alloc: Global) -> Result<Module, NoMemory> {
     let dict = Expr::DictOver(boxed(alloc, "a")?, boxed(alloc, "b")?, clauses);
     let first = line(alloc, 1, SmallKind::Tests(one(alloc, primary)?))?;
     let second = line(alloc, 2, SmallKind::Tests(one(alloc, dict)?))?;
-    Ok(Module {
-        statements: two(alloc, first, second)?,
-    })
+    module(alloc, two(alloc, first, second)?)
 }
 
 fn word_text(word: Keyword) -> &'static str {
@@ -307,8 +305,11 @@ fn trees_are_spelled_by_the_grammar(rt: HostRuntime) -> Result<(), Fail> {
     for (row, tree, expected) in &rows {
         let tokens = written(alloc, spell(alloc, tree)?.as_slice())?;
         assert_eq!(rt; tokens.as_str(), *expected, "{}", *row);
-        let again = written(alloc, spell(alloc, &tree.copy(alloc)?)?.as_slice())?;
-        assert_eq!(rt; again.as_str(), *expected, "a copy of {}", *row);
+        let shared = Module {
+            statements: tree.statements.share()?,
+        };
+        let again = written(alloc, spell(alloc, &shared)?.as_slice())?;
+        assert_eq!(rt; again.as_str(), *expected, "{}, shared", *row);
     }
     Ok(())
 }
@@ -318,13 +319,13 @@ fn trees_are_spelled_by_the_grammar(rt: HostRuntime) -> Result<(), Fail> {
 fn cells_hold_their_parts(rt: HostRuntime) -> Result<(), Fail> {
     let alloc = rt.alloc();
     let module = Module {
-        statements: Items::new(alloc),
+        statements: Statements::new(alloc, Items::new(alloc))?,
     };
     let names = Names::from_vec(Vec::new(alloc));
     let cell = Cell::new(text(alloc, "# no statement")?, module, names).copy(alloc)?;
     assert_eq!(rt; cell.source().as_str(), "# no statement");
     assert_eq!(rt; cell.inputs().as_slice().len(), 0);
-    assert_eq!(rt; cell.module().statements.len(), 0);
+    assert_eq!(rt; cell.module().statements.as_slice().len(), 0);
     assert!(rt; cell.function(0).is_none());
     let program = Program {
         cells: Cells::from_vec(vec![in alloc; cell]?),

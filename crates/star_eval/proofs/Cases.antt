@@ -6,6 +6,7 @@ use Rattle.star_syntax.specs.declared.expression.Expr.TheOpen.{Expr-F}
 use Rattle.star_syntax.specs.declared.expression.Expr.TheVariants as e
 use Rattle.star_syntax.specs.declared.expression.ChainLevel.{ChainLevel}
 use Rattle.star_syntax.specs.declared.expression.Link.{Link}
+use Rattle.star_syntax.specs.declared.expression.Arm.{Arm}
 use Rattle.star_syntax.specs.declared.expression.Suffix.{Suffix}
 use Rattle.star_syntax.specs.declared.expression.Suffix.TheVariants as s
 use Rattle.star_syntax.specs.declared.expression.Pair.{Pair}
@@ -137,8 +138,8 @@ pub value_not : (n : ℕ) (x : Expr) (w : World) → value_of (e.Not n x) w ≡ 
 unfolding value_of
 value_not n x w = rw (← e.rolls-Not n x, fold-roll-Expr (Work Value) step) refl
 
-pub value_conditional : (x y z : Expr) (w : World) → value_of (e.Conditional x y z) w ≡ Undefined
+pub value_conditional : (arms : List (Arm Expr)) (last : Expr) (w : World) → value_of (e.Conditional arms last) w ≡ Undefined
 unfolding value_of
-value_conditional x y z w = rw (← e.rolls-Conditional x y z, fold-roll-Expr (Work Value) step) refl
+value_conditional arms last w = rw (← e.rolls-Conditional arms last, fold-roll-Expr (Work Value) step) refl
 
 pub ruleset cases = (value_name, value_int, value_chain, value_primary, value_text, value_none, value_true, value_false, value_paren, value_tuple, value_list, value_list_over, value_dict, value_dict_over, value_signed, value_compare, value_not, value_conditional)

@@ -56,7 +56,7 @@ pub fn eval(alloc: Global, run: &mut Run, expr: &Expr) -> Result<Value, Stop>
         | Expr::Signed(_, _)
         | Expr::Compare(_, _, _)
         | Expr::Not(_, _)
-        | Expr::Conditional(_, _, _) => Err(Stop::Undefined),
+        | Expr::Conditional(_, _) => Err(Stop::Undefined),
     }
 }
 

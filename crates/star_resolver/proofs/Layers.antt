@@ -6,6 +6,7 @@ use Rattle.star_syntax.specs.declared.operator.UnaryOp.{UnaryOp}
 use Rattle.star_syntax.specs.declared.operator.CompareOp.{CompareOp}
 use Rattle.star_syntax.specs.declared.expression.ChainLevel.{ChainLevel}
 use Rattle.star_syntax.specs.declared.expression.Link.{Link}
+use Rattle.star_syntax.specs.declared.expression.Arm.{Arm}
 use Rattle.star_syntax.specs.declared.expression.Named.{Named}
 use Rattle.star_syntax.specs.declared.expression.Pair.{Pair}
 use Rattle.star_syntax.specs.declared.expression.Suffix.{Suffix}
@@ -18,7 +19,7 @@ use Rattle.star_syntax.specs.declared.expression.Expr.TheVariants as e
 use Rattle.star_syntax.specs.Placement as rules
 use Rattle.star_syntax.specs.Placement.{Breach, InputNotLiteral, Use, Literal, Other, Seen, is_input, seen, layer_seen, suffix_uses, clause_uses, arguments_uses, optional_uses, step_uses, all_uses, head_uses, expr_sights}
 use Rattle.star_resolver.specs.Outcomes.{Names, Work, and_then, each}
-use Rattle.star_resolver.specs.Scans.{scan, names_input, literal, lone_literal, first_literal, name_read, scan_head, scan_optional, scan_step, scan_named, scan_suffix, scan_clause, scan_pair, scan_link}
+use Rattle.star_resolver.specs.Scans.{scan, names_input, literal, lone_literal, first_literal, name_read, scan_head, scan_optional, scan_step, scan_named, scan_suffix, scan_clause, scan_pair, scan_link, scan_arm}
 use Rattle.star_resolver.proofs.Walks.{same_then, each-map, run, run-append, run-three, run-flat_map}
 
 at_layer : (d : Expr-F Expr) → seen (roll-Expr d) ≡ layer_seen (map-Expr Expr Seen seen d)
@@ -163,13 +164,13 @@ pub literal-Not : (count : ℕ) (x : Expr) → literal (e.Not count x) ≡ None
 unfolding literal
 literal-Not count x = ap (λ x. (seen x).literal) (sym (e.rolls-Not count x)) ∙ ap (λ s. s.literal) (at_layer (Expr-F.Not count x))
 
-pub names_input-Conditional : (x y z : Expr) → names_input (e.Conditional x y z) ≡ false
+pub names_input-Conditional : (arms : List (Arm Expr)) (last : Expr) → names_input (e.Conditional arms last) ≡ false
 unfolding names_input
-names_input-Conditional x y z = ap (λ x. (seen x).names_input) (sym (e.rolls-Conditional x y z)) ∙ ap (λ s. s.names_input) (at_layer (Expr-F.Conditional x y z))
+names_input-Conditional arms last = ap (λ x. (seen x).names_input) (sym (e.rolls-Conditional arms last)) ∙ ap (λ s. s.names_input) (at_layer (Expr-F.Conditional arms last))
 
-pub literal-Conditional : (x y z : Expr) → literal (e.Conditional x y z) ≡ None
+pub literal-Conditional : (arms : List (Arm Expr)) (last : Expr) → literal (e.Conditional arms last) ≡ None
 unfolding literal
-literal-Conditional x y z = ap (λ x. (seen x).literal) (sym (e.rolls-Conditional x y z)) ∙ ap (λ s. s.literal) (at_layer (Expr-F.Conditional x y z))
+literal-Conditional arms last = ap (λ x. (seen x).literal) (sym (e.rolls-Conditional arms last)) ∙ ap (λ s. s.literal) (at_layer (Expr-F.Conditional arms last))
 
 pub ruleset looks = (names_input-Name, literal-Name, names_input-Int, literal-Int, names_input-Text, literal-Text, names_input-None, literal-None, names_input-True, literal-True, names_input-False, literal-False, names_input-Paren, literal-Paren, names_input-Tuple, literal-Tuple, names_input-List, literal-List, names_input-ListOver, literal-ListOver, names_input-Dict, literal-Dict, names_input-DictOver, literal-DictOver, names_input-Primary, literal-Primary, names_input-Signed, literal-Signed, names_input-Chain, literal-Chain, names_input-Compare, literal-Compare, names_input-Not, literal-Not, names_input-Conditional, literal-Conditional)
 
@@ -182,6 +183,10 @@ suffixes_in _ = []
 links_in : {X : Type 0} → Expr-F X → List (Link X)
 links_in (Expr-F.Chain level first xs) = xs
 links_in _ = []
+
+arms_in : {X : Type 0} → Expr-F X → List (Arm X)
+arms_in (Expr-F.Conditional xs last) = xs
+arms_in _ = []
 
 clauses_in : {X : Type 0} → Expr-F X → List (Clause X)
 clauses_in (Expr-F.ListOver item xs) = xs
@@ -302,6 +307,14 @@ links_again : (line : ℕ) (level : ChainLevel) (first : Expr) (xs : List (Link 
 unfolding links_in seen_in
 links_again line level first [] n = refl
 links_again line level first (x ∷ xs) n = run-append line (seen x.operand).uses _ n ∙ same_then _ _ _ _ (one_again line x.operand n) (links_again line level first xs)
+
+arms_again : (line : ℕ) (last : Expr) (xs : List (Arm Expr)) (n : Names) →
+    run line (flat_map (λ arm. arm.value.uses ++ arm.condition.uses) (arms_in (seen_in (Expr-F.Conditional xs last)))) n ≡ each (scan_arm line) xs n
+unfolding arms_in seen_in
+arms_again line last [] n = refl
+arms_again line last (x ∷ xs) n =
+    run-append line ((seen x.value).uses ++ (seen x.condition).uses) _ n
+    ∙ same_then _ _ _ _ (run-append line (seen x.value).uses (seen x.condition).uses n ∙ same_then _ _ _ _ (one_again line x.value n) (one_again line x.condition)) (arms_again line last xs)
 
 -- ---- `input(TEXT)`
 
@@ -430,9 +443,9 @@ unfolding seen_in
 scan-Not line count x n = ap (λ tree. scan line tree n) (sym (e.rolls-Not count x)) ∙ from_layer line (Expr-F.Not count x) n
     ∙ one_again line x n
 
-pub scan-Conditional : (line : ℕ) (x y z : Expr) (n : Names) → scan line (e.Conditional x y z) n ≡ (and_then (scan line x n) (λ m. and_then (scan line y m) (scan line z)))
-unfolding seen_in
-scan-Conditional line x y z n = ap (λ tree. scan line tree n) (sym (e.rolls-Conditional x y z)) ∙ from_layer line (Expr-F.Conditional x y z) n
-    ∙ slice_again line (seen x).uses (seen y).uses (seen z).uses n (scan line x) (scan line y) (scan line z) (one_again line x) (one_again line y) (one_again line z)
+pub scan-Conditional : (line : ℕ) (arms : List (Arm Expr)) (last : Expr) (n : Names) → scan line (e.Conditional arms last) n ≡ (and_then (each (scan_arm line) arms n) (scan line last))
+unfolding arms_in seen_in
+scan-Conditional line arms last n = ap (λ tree. scan line tree n) (sym (e.rolls-Conditional arms last)) ∙ from_layer line (Expr-F.Conditional arms last) n
+    ∙ run-append line _ (seen last).uses n ∙ same_then _ _ _ _ (arms_again line last arms n) (one_again line last)
 
 pub ruleset layers = (scan-Name, scan-Int, scan-Text, scan-None, scan-True, scan-False, scan-Paren, scan-Tuple, scan-List, scan-ListOver, scan-Dict, scan-DictOver, scan-Primary, scan-Signed, scan-Chain, scan-Compare, scan-Not, scan-Conditional)

@@ -2,6 +2,7 @@
 use Rattle.std.specs.Prelude.{ℕ, Bool, false, List, [], ◌∷◌, Option, Some, None, Ok, Err, if◌then◌else◌}
 use Rattle.std.specs.FinSet as set
 use Rattle.star_syntax.specs.declared.expression.Link.{Link}
+use Rattle.star_syntax.specs.declared.expression.Arm.{Arm}
 use Rattle.star_syntax.specs.declared.expression.Named.{Named}
 use Rattle.star_syntax.specs.declared.expression.Pair.{Pair}
 use Rattle.star_syntax.specs.declared.expression.Arguments.{Arguments}
@@ -82,6 +83,9 @@ scan_pair line pair names = and_then (scan line pair.key names) (scan line pair.
 
 abbrev pub scan_link : ℕ → Link Expr → Work
 scan_link line link = scan line link.operand
+
+abbrev pub scan_arm : ℕ → Arm Expr → Work
+scan_arm line arm names = and_then (scan line arm.value names) (scan line arm.condition)
 
 -- ---- small statements
 

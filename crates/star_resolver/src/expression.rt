@@ -8,7 +8,7 @@ ghost use Rattle.star_resolver.specs.Scans as spec;
 use crate::error::{ResolveFault, ResolveKind};
 use crate::texts::Texts;
 use chex_base::Text;
-use star_syntax::{Arguments, Clause, Expr, Link, Named, Pair, Suffix};
+use star_syntax::{Arguments, Arm, Clause, Expr, Link, Named, Pair, Suffix};
 use std::alloc::Global;
 
 /// Whether a name is `input`.
@@ -42,7 +42,7 @@ fn names_input(tree: &Expr) -> bool
         | Expr::Chain(_, _, _)
         | Expr::Compare(_, _, _)
         | Expr::Not(_, _)
-        | Expr::Conditional(_, _, _) => false,
+        | Expr::Conditional(_, _) => false,
     }
 }
 
@@ -69,7 +69,7 @@ fn literal(tree: &Expr) -> Option<&Text>
         | Expr::Chain(_, _, _)
         | Expr::Compare(_, _, _)
         | Expr::Not(_, _)
-        | Expr::Conditional(_, _, _) => None,
+        | Expr::Conditional(_, _) => None,
     }
 }
 
@@ -144,10 +144,9 @@ pub fn expr(alloc: Global, line: u32, found: &mut Texts, tree: &Expr) -> Result<
             expr(alloc, line, found, left.get())?;
             expr(alloc, line, found, right.get())
         }
-        Expr::Conditional(value, condition, other) => {
-            expr(alloc, line, found, value.get())?;
-            expr(alloc, line, found, condition.get())?;
-            expr(alloc, line, found, other.get())
+        Expr::Conditional(all, last) => {
+            arms(alloc, line, found, all.as_slice())?;
+            expr(alloc, line, found, last.get())
         }
     }
 }
@@ -307,6 +306,23 @@ fn links(
 {
     for link in all {
         expr(alloc, line, found, &link.operand)?;
+    }
+    Ok(())
+}
+
+/// The same of the arms of a conditional, in order.
+#[cycle(scan)]
+fn arms(
+    alloc: Global,
+    line: u32,
+    found: &mut Texts,
+    all: &[Arm<Expr>],
+) -> Result<(), ResolveFault>
+    ensures { Gives (each (spec.scan_arm line) all.now found.old) result found.new }
+{
+    for arm in all {
+        expr(alloc, line, found, &arm.value)?;
+        expr(alloc, line, found, &arm.condition)?;
     }
     Ok(())
 }

@@ -1,7 +1,7 @@
 //! The shapes of expressions: each node in round brackets, with its kind and then its parts.
 
 use chex_base::{NoMemory, Text};
-use star_syntax::{Arguments, ChainOp, Clause, Expr, Link, Named, Pair, Suffix};
+use star_syntax::{Arguments, Arm, ChainOp, Clause, Expr, Link, Named, Pair, Suffix};
 use std::alloc::Global;
 
 /// Begins a node of this kind.
@@ -128,11 +128,10 @@ fn operation(alloc: Global, out: &mut Text, tree: &Expr) -> Result<(), NoMemory>
             word(out, format!(in alloc; "{count}")?.as_str())?;
             expr(alloc, out, operand.get())?;
         }
-        Expr::Conditional(value, condition, other) => {
+        Expr::Conditional(all, last) => {
             open(out, "Conditional")?;
-            expr(alloc, out, value.get())?;
-            expr(alloc, out, condition.get())?;
-            expr(alloc, out, other.get())?;
+            arms(alloc, out, all.as_slice())?;
+            expr(alloc, out, last.get())?;
         }
         _ => open(out, "Unknown")?,
     }
@@ -248,6 +247,18 @@ fn pairs(alloc: Global, out: &mut Text, all: &[Pair<Expr>]) -> Result<(), NoMemo
         open(out, "Pair")?;
         expr(alloc, out, &pair.key)?;
         expr(alloc, out, &pair.value)?;
+        close(out)?;
+    }
+    Ok(())
+}
+
+/// Adds the arms of a conditional, in order.
+#[cycle(shape)]
+fn arms(alloc: Global, out: &mut Text, all: &[Arm<Expr>]) -> Result<(), NoMemory> {
+    for arm in all {
+        open(out, "Arm")?;
+        expr(alloc, out, &arm.value)?;
+        expr(alloc, out, &arm.condition)?;
         close(out)?;
     }
     Ok(())

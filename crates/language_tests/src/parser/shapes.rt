@@ -47,14 +47,19 @@ const EXPRESSIONS: [(&str, &str); 29] = [
         "a | b < c + d",
         " (Compare (BitOr a Or b) Less (Sum c Add d))",
     ),
-    // A conditional goes on to the right; brackets are nodes.
+    // A conditional is one node with its arms; brackets are nodes.
+    ("a if b else c", " (Conditional (Arm a b) c)"),
     (
         "a if b else c if d else e",
-        " (Conditional a b (Conditional c d e))",
+        " (Conditional (Arm a b) (Arm c d) e)",
+    ),
+    (
+        "a if b else ( c if d else e )",
+        " (Conditional (Arm a b) (Paren (Conditional (Arm c d) e)))",
     ),
     (
         "( a if b else c ) if d else e",
-        " (Conditional (Paren (Conditional a b c)) d e)",
+        " (Conditional (Arm (Paren (Conditional (Arm a b) c)) d) e)",
     ),
     ("a - ( b - c )", " (Sum a Sub (Paren (Sum b Sub c)))"),
     // Brackets, with a comma at the end.

@@ -7,7 +7,7 @@ use crate::{Bounds, binary, index, slice, unary};
 use chex_base::{NoMemory, NodeId, Text};
 use heap_store::Machine;
 use sqlite_items::Items;
-use star_syntax::{BinaryOp, Cell, Cells, Module, Names, Program, UnaryOp};
+use star_syntax::{BinaryOp, Cell, Cells, Module, Names, Program, Statements, UnaryOp};
 use star_value::{Meter, Stop, Value};
 use std::alloc::Global;
 use std::process::Abort;
@@ -16,7 +16,7 @@ use std::test::Fail;
 /// A program of one cell without a statement.
 fn program(alloc: Global) -> Result<Program, NoMemory> {
     let module = Module {
-        statements: Items::new(alloc),
+        statements: Statements::new(alloc, Items::new(alloc))?,
     };
     let names = Names::from_vec(Vec::new(alloc));
     let cell = Cell::new(Text::new(alloc), module, names);

@@ -1,6 +1,6 @@
 use Rattle.std.proofs.Common.{◌≡◌, ◌+◌, ◌*◌, drop}
 use Rattle.star_resolver.specs.Outcomes.{each}
-use Rattle.star_resolver.specs.Scans.{scan, scan_named, scan_suffix, scan_clause, scan_pair, scan_link}
+use Rattle.star_resolver.specs.Scans.{scan, scan_named, scan_suffix, scan_clause, scan_pair, scan_link, scan_arm}
 use Rattle.star_resolver.proofs.expression.+scan.Given as goal
 
 -- each function goes down the tree, or stays and calls one of a lower number
@@ -22,6 +22,9 @@ decreases-named l = 5 * goal.size-named l + 1
 
 abbrev pub decreases-links : goal.decreases-links
 decreases-links l = 5 * goal.size-links l + 1
+
+abbrev pub decreases-arms : goal.decreases-arms
+decreases-arms l = 5 * goal.size-arms l + 1
 
 abbrev pub decreases-second_colon : goal.decreases-second_colon
 decreases-second_colon l = 5 * goal.size-second_colon l + 2
@@ -54,3 +57,6 @@ invariant-pairs-loop-pair l = each (scan_pair l.line) (drop l.pair-index l.all) 
 
 abbrev pub invariant-links-loop-link : goal.invariant-links-loop-link
 invariant-links-loop-link l = each (scan_link l.line) (drop l.link-index l.all) l.found ≡ each (scan_link l.line) l.all l.fn.found
+
+abbrev pub invariant-arms-loop-arm : goal.invariant-arms-loop-arm
+invariant-arms-loop-arm l = each (scan_arm l.line) (drop l.arm-index l.all) l.found ≡ each (scan_arm l.line) l.all l.fn.found

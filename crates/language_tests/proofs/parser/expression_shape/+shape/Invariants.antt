@@ -27,6 +27,9 @@ decreases-named l = 7 * goal.size-named l + 3
 abbrev pub decreases-links : goal.decreases-links
 decreases-links l = 7 * goal.size-links l + 3
 
+abbrev pub decreases-arms : goal.decreases-arms
+decreases-arms l = 7 * goal.size-arms l + 3
+
 abbrev pub decreases-second_colon : goal.decreases-second_colon
 decreases-second_colon l = 7 * goal.size-second_colon l + 4
 
