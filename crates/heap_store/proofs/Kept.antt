@@ -7,17 +7,18 @@ use Rattle.std.specs.BTreeMap.{insert_entry}
 use Rattle.std.specs.List.{list_all, insert, remove}
 use Rattle.std.specs.List.Sorted.{IsStrictlySortedBy}
 use Rattle.std.specs.Map.{keys_of}
+use Rattle.std.specs.Str.{all_scalars}
 use Rattle.std.specs.declared.cmp.Ordering.{Ordering}
 use Rattle.std.specs.declared.cmp.Ordering.TheVariants.{Less, Equal, Greater}
 use Rattle.chex_base.specs.TextOrder.{text_cmp}
 use Rattle.star_value.specs.declared.key.Key.{Key}
 use Rattle.star_value.specs.declared.value.Value.{Value}
 use Rattle.star_meaning.specs.State.{Object, AList, ADict, AFunction, items_held, pairs_held, function_held, dict_put, dict_without, function, object, with_list, with_dict}
-use Rattle.star_meaning.specs.Validity.{MachineState, IsMachine, is_list, is_dict, is_function, fits, all_in_object, are_distinct, has_distinct_keys}
+use Rattle.star_meaning.specs.Validity.{MachineState, IsMachine, is_list, is_dict, is_function, fits, all_in_object, all_in_pair, are_distinct, has_distinct_keys, has_32_bits, has_small_numbers}
 use Rattle.heap_store.specs.Objects.{defaults, defaults_in, emptied, with_defaults, with_nothing}
-use Rattle.heap_store.proofs.Tested.{and_left, and_right, and_both, all_push, all_set, all_insert, all_remove}
+use Rattle.heap_store.proofs.Tested.{and_left, and_right, and_both, all_push, all_set, all_insert, all_remove, one_passes}
 use Rattle.heap_store.proofs.PairLemmas.{all_put, all_without, distinct_put, distinct_without}
-use Rattle.heap_store.proofs.References.{Alike, object_fits, objects_stay, globals_stay, stay_new, stay_set}
+use Rattle.heap_store.proofs.References.{Alike, key_fits, object_fits, objects_stay, globals_stay, stay_new, stay_set}
 
 abbrev pub Objects : Type 0
 Objects = List (Object ℕ)
@@ -34,10 +35,10 @@ items_fit test (ADict pairs ∷ os) zero h = refl
 items_fit test (AFunction cell number defaults ∷ os) zero h = refl
 items_fit test (o ∷ os) (suc i) h = items_fit test os i (and_right (all_in_object test o) (list_all (all_in_object test) os) h)
 
-pub pairs_fit : (test : Value → Bool) (os : Objects) (i : ℕ) → IsTrue (list_all (all_in_object test) os) → IsTrue (list_all (λ pair. test pair.1) (pairs_held (slice_get os i)))
+pub pairs_fit : (test : Value → Bool) (os : Objects) (i : ℕ) → IsTrue (list_all (all_in_object test) os) → IsTrue (list_all (all_in_pair test) (pairs_held (slice_get os i)))
 pairs_fit test [] i h = refl
 pairs_fit test (AList items ∷ os) zero h = refl
-pairs_fit test (ADict pairs ∷ os) zero h = and_left (list_all (λ pair. test pair.1) pairs) (list_all (all_in_object test) os) h
+pairs_fit test (ADict pairs ∷ os) zero h = and_left (list_all (all_in_pair test) pairs) (list_all (all_in_object test) os) h
 pairs_fit test (AFunction cell number defaults ∷ os) zero h = refl
 pairs_fit test (o ∷ os) (suc i) h = pairs_fit test os i (and_right (all_in_object test o) (list_all (all_in_object test) os) h)
 
@@ -66,9 +67,12 @@ globals_fit m kept = and_left (list_all (λ global. fits m.state.objects global.
 objects_fit : (m : MachineState) → IsMachine m → IsTrue (list_all (all_in_object (fits m.state.objects)) m.state.objects)
 objects_fit m kept = and_right (list_all (λ global. fits m.state.objects global.1) m.state.globals) (list_all (all_in_object (fits m.state.objects)) m.state.objects) kept.references
 
-pub kept_enter : (m : MachineState) (node : ℕ) → IsMachine m → length m.ran < 64 → IsMachine (record m { ran = m.ran ++ node ∷ [] })
-kept_enter m node kept few = record {
+pub kept_enter : (m : MachineState) (node : ℕ) → IsMachine m → IsTrue (has_32_bits node) → length m.ran < 64 → IsMachine (record m { ran = m.ran ++ node ∷ [] })
+kept_enter m node kept small few = record {
   names = kept.names;
+  characters = kept.characters;
+  nodes = all_push has_32_bits m.ran node kept.nodes small;
+  numbers = kept.numbers;
   keys = kept.keys;
   references = kept.references;
   few = simp length-append (omega (arith, kept.few));
@@ -88,11 +92,26 @@ entries_fit test name v fine (g ∷ gs) h =
     entry_fits test name v fine g gs (insert_entry text_cmp gs name v) (text_cmp name g.0) h
     (entries_fit test name v fine gs (and_right (test g.1) (list_all (λ global. test global.1) gs) h))
 
-pub kept_set_global : (m : MachineState) (name : List ℕ) (v : Value) → IsMachine m → IsTrue (fits m.state.objects v)
+entry_named : (test : List ℕ → Bool) (name : List ℕ) (v : Value) → IsTrue (test name) → (g : List ℕ × Value) (gs more : Globals) (o : Ordering)
+    → IsTrue (list_all test (keys_of (g ∷ gs))) → IsTrue (list_all test (keys_of more)) → IsTrue (list_all test (keys_of (match_ordering o ((name, v) ∷ g ∷ gs) ((g.0, v) ∷ gs) (g ∷ more))))
+entry_named test name v fine g gs more Less h k = and_both (test name) (list_all test (keys_of (g ∷ gs))) fine h
+entry_named test name v fine g gs more Equal h k = h
+entry_named test name v fine g gs more Greater h k = and_both (test g.0) (list_all test (keys_of more)) (and_left (test g.0) (list_all test (keys_of gs)) h) k
+
+entries_named : (test : List ℕ → Bool) (name : List ℕ) (v : Value) → IsTrue (test name) → (gs : Globals) → IsTrue (list_all test (keys_of gs)) → IsTrue (list_all test (keys_of (insert_entry text_cmp gs name v)))
+entries_named test name v fine [] h = and_both (test name) true fine refl
+entries_named test name v fine (g ∷ gs) h =
+    entry_named test name v fine g gs (insert_entry text_cmp gs name v) (text_cmp name g.0) h
+    (entries_named test name v fine gs (and_right (test g.0) (list_all test (keys_of gs)) h))
+
+pub kept_set_global : (m : MachineState) (name : List ℕ) (v : Value) → IsMachine m → IsTrue (all_scalars name) → IsTrue (fits m.state.objects v)
     → IsStrictlySortedBy text_cmp (keys_of (insert_entry text_cmp m.state.globals name v))
     → IsMachine (record m { state = record { globals = insert_entry text_cmp m.state.globals name v; objects = m.state.objects } })
-kept_set_global m name v kept fit sorted = record {
+kept_set_global m name v kept scalars fit sorted = record {
   names = sorted;
+  characters = entries_named all_scalars name v scalars m.state.globals kept.characters;
+  nodes = kept.nodes;
+  numbers = kept.numbers;
   keys = kept.keys;
   references = and_both (list_all (λ global. fits m.state.objects global.1) (insert_entry text_cmp m.state.globals name v)) (list_all (all_in_object (fits m.state.objects)) m.state.objects)
       (entries_fit (fits m.state.objects) name v fit m.state.globals (globals_fit m kept)) (objects_fit m kept);
@@ -100,14 +119,17 @@ kept_set_global m name v kept fit sorted = record {
   room = kept.room;
 }
 
-pub kept_new : (m : MachineState) (o : Object ℕ) → IsMachine m → IsTrue (has_distinct_keys o) → IsTrue (all_in_object (fits m.state.objects) o)
+pub kept_new : (m : MachineState) (o : Object ℕ) → IsMachine m → IsTrue (has_distinct_keys o) → IsTrue (has_small_numbers o) → IsTrue (all_in_object (fits m.state.objects) o)
     → length m.state.objects < 1000000 * length m.ran → IsMachine (with_objects m (m.state.objects ++ o ∷ []))
-kept_new m o kept distinct fit room =
+kept_new m o kept distinct small fit room =
     let before = m.state.objects in
     let after = before ++ o ∷ [] in
     let stay = stay_new before o in
     record {
       names = kept.names;
+      characters = kept.characters;
+      nodes = kept.nodes;
+      numbers = all_push has_small_numbers before o kept.numbers small;
       keys = all_push has_distinct_keys before o kept.keys distinct;
       references = and_both (list_all (λ global. fits after global.1) m.state.globals) (list_all (all_in_object (fits after)) after)
           (globals_stay before after stay m.state.globals (globals_fit m kept))
@@ -116,14 +138,17 @@ kept_new m o kept distinct fit room =
       room = simp length-append (omega arith);
     }
 
-pub kept_changed : (m : MachineState) (id : ℕ) (o : Object ℕ) → IsMachine m → Alike (slice_get m.state.objects id) o → IsTrue (has_distinct_keys o) → IsTrue (all_in_object (fits m.state.objects) o)
+pub kept_changed : (m : MachineState) (id : ℕ) (o : Object ℕ) → IsMachine m → Alike (slice_get m.state.objects id) o → IsTrue (has_distinct_keys o) → IsTrue (has_small_numbers o) → IsTrue (all_in_object (fits m.state.objects) o)
     → IsMachine (with_objects m (slice_set m.state.objects id o))
-kept_changed m id o kept alike distinct fit =
+kept_changed m id o kept alike distinct small fit =
     let before = m.state.objects in
     let after = slice_set before id o in
     let stay = stay_set before id o alike in
     record {
       names = kept.names;
+      characters = kept.characters;
+      nodes = kept.nodes;
+      numbers = all_set has_small_numbers before id o kept.numbers small;
       keys = all_set has_distinct_keys before id o kept.keys distinct;
       references = and_both (list_all (λ global. fits after global.1) m.state.globals) (list_all (all_in_object (fits after)) after)
           (globals_stay before after stay m.state.globals (globals_fit m kept))
@@ -163,15 +188,15 @@ alike_function o cell number defaults is = record { list = λ h. absurd (other_f
 
 pub kept_list : (m : MachineState) (id : ℕ) (items : List Value) → IsMachine m → IsTrue (is_list (slice_get m.state.objects id)) → IsTrue (list_all (fits m.state.objects) items)
     → IsMachine (with_objects m (slice_set m.state.objects id (AList items)))
-kept_list m id items kept is fit = kept_changed m id (AList items) kept (alike_list (slice_get m.state.objects id) items is) refl fit
+kept_list m id items kept is fit = kept_changed m id (AList items) kept (alike_list (slice_get m.state.objects id) items is) refl refl fit
 
 pub kept_dict : (m : MachineState) (id : ℕ) (pairs : List (Key × Value)) → IsMachine m → IsTrue (is_dict (slice_get m.state.objects id)) → IsTrue (are_distinct pairs)
-    → IsTrue (list_all (λ pair. fits m.state.objects pair.1) pairs) → IsMachine (with_objects m (slice_set m.state.objects id (ADict pairs)))
-kept_dict m id pairs kept is distinct fit = kept_changed m id (ADict pairs) kept (alike_dict (slice_get m.state.objects id) pairs is) distinct fit
+    → IsTrue (list_all (all_in_pair (fits m.state.objects)) pairs) → IsMachine (with_objects m (slice_set m.state.objects id (ADict pairs)))
+kept_dict m id pairs kept is distinct fit = kept_changed m id (ADict pairs) kept (alike_dict (slice_get m.state.objects id) pairs is) distinct refl fit
 
-pub kept_function : (m : MachineState) (id cell number : ℕ) (defaults : List Value) → IsMachine m → IsTrue (is_function (slice_get m.state.objects id)) → IsTrue (list_all (fits m.state.objects) defaults)
+pub kept_function : (m : MachineState) (id cell number : ℕ) (defaults : List Value) → IsMachine m → IsTrue (is_function (slice_get m.state.objects id)) → IsTrue (has_small_numbers (AFunction cell number defaults)) → IsTrue (list_all (fits m.state.objects) defaults)
     → IsMachine (with_objects m (slice_set m.state.objects id (AFunction cell number defaults)))
-kept_function m id cell number defaults kept is fit = kept_changed m id (AFunction cell number defaults) kept (alike_function (slice_get m.state.objects id) cell number defaults is) refl fit
+kept_function m id cell number defaults kept is small fit = kept_changed m id (AFunction cell number defaults) kept (alike_function (slice_get m.state.objects id) cell number defaults is) refl small fit
 
 -- ---- an object that was changed in its place
 
@@ -214,7 +239,7 @@ pub kept_put : (m : MachineState) (id : ℕ) (o : Object ℕ) (key : Key) (v : V
 kept_put m id o key v kept is fit made =
     let pairs = pairs_held (slice_get m.state.objects id) in
     rw made (kept_dict m id (dict_put pairs key v) kept is (distinct_put key v pairs (keys_distinct m.state.objects id kept.keys))
-    (all_put (fits m.state.objects) key v fit pairs (pairs_fit (fits m.state.objects) m.state.objects id (objects_fit m kept))))
+    (all_put (fits m.state.objects) key v (key_fits m.state.objects key) fit pairs (pairs_fit (fits m.state.objects) m.state.objects id (objects_fit m kept))))
 
 pub kept_without : (m : MachineState) (id : ℕ) (o : Object ℕ) (key : Key) → IsMachine m → IsTrue (is_dict (slice_get m.state.objects id))
     → o ≡ ADict (dict_without (pairs_held (slice_get m.state.objects id)) key) → IsMachine (with_objects m (slice_set m.state.objects id o))
@@ -254,7 +279,7 @@ Redefaulted o place v before = IfSome (function_held before) (λ parts. o ≡ AF
 pub kept_default : (m : MachineState) (id : ℕ) (o : Object ℕ) (place : ℕ) (v : Value) (before : Option (Object ℕ)) → slice_get m.state.objects id ≡ before → IsTrue (is_function before) → Redefaulted o place v before
     → IsMachine m → IsTrue (fits m.state.objects v) → IsMachine (with_objects m (slice_set m.state.objects id o))
 kept_default m id o place v (Some (AFunction cell number defaults)) here is made kept fit =
-    rw made (kept_function m id cell number (slice_set defaults place v) kept (rw here refl)
+    rw made (kept_function m id cell number (slice_set defaults place v) kept (rw here refl) (one_passes has_small_numbers m.state.objects id (AFunction cell number defaults) kept.numbers here)
     (all_set (fits m.state.objects) defaults place v (rw here at (defaults_fit (fits m.state.objects) m.state.objects id (objects_fit m kept))) fit))
 kept_default m id o place v (Some (AList items)) here is made kept fit = absurd (cc)
 kept_default m id o place v (Some (ADict pairs)) here is made kept fit = absurd (cc)

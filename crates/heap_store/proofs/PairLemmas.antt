@@ -4,9 +4,10 @@ use Rattle.std.specs.List.{list_all, list_any, remove}
 use Rattle.star_value.specs.declared.key.Key.{Key}
 use Rattle.star_value.specs.declared.value.Value.{Value}
 use Rattle.star_value.specs.KeyLaws.{same_key_equiv}
+use Rattle.star_value.specs.Keys.{value_of}
 use Rattle.star_value.specs.KeyOrder.{same_key}
 use Rattle.star_meaning.specs.State.{dict_get, dict_put, dict_without}
-use Rattle.star_meaning.specs.Validity.{are_distinct}
+use Rattle.star_meaning.specs.Validity.{all_in_pair, are_distinct}
 use Rattle.heap_store.specs.Places.{key_place}
 use Rattle.heap_store.proofs.Tested.{and_left, and_right, and_both}
 
@@ -103,30 +104,38 @@ put_found key v pairs kept n is within here =
 pub put_new : (key : Key) (v : Value) (pairs : Pairs) (n : ℕ) → n ≡ key_place pairs key → length pairs ≤ n → pairs ++ (key, v) ∷ [] ≡ dict_put pairs key v
 put_new key v pairs n is past = push_at key v pairs (rw is at past)
 
--- ---- a test of each value
+-- ---- a test of each key and value
 
 module _ (test : Value → Bool) (key : Key) where
   abbrev pub All : Pairs → Type 0
-  All pairs = IsTrue (list_all (λ pair. test pair.1) pairs)
+  All pairs = IsTrue (list_all (all_in_pair test) pairs)
+
+  first_passes : (pair : Key × Value) (pairs : Pairs) → All (pair ∷ pairs) → IsTrue (all_in_pair test pair)
+  first_passes pair pairs h = and_left (all_in_pair test pair) (list_all (all_in_pair test) pairs) h
+
+  rest_passes : (pair : Key × Value) (pairs : Pairs) → All (pair ∷ pairs) → All pairs
+  rest_passes pair pairs h = and_right (all_in_pair test pair) (list_all (all_in_pair test) pairs) h
 
   put_here : (v : Value) → IsTrue (test v) → (pair : Key × Value) (pairs : Pairs) (b : Bool) → All (pair ∷ pairs) → All (dict_put pairs key v)
       → All (cond b ((pair.0, v) ∷ pairs) (pair ∷ dict_put pairs key v))
-  put_here v fine pair pairs true h more = and_both (test v) (list_all (λ p. test p.1) pairs) fine (and_right (test pair.1) (list_all (λ p. test p.1) pairs) h)
-  put_here v fine pair pairs false h more = and_both (test pair.1) (list_all (λ p. test p.1) (dict_put pairs key v)) (and_left (test pair.1) (list_all (λ p. test p.1) pairs) h) more
+  put_here v fine pair pairs true h more =
+      and_both (all_in_pair test (pair.0, v)) (list_all (all_in_pair test) pairs)
+      (and_both (test (value_of pair.0)) (test v) (and_left (test (value_of pair.0)) (test pair.1) (first_passes pair pairs h)) fine) (rest_passes pair pairs h)
+  put_here v fine pair pairs false h more = and_both (all_in_pair test pair) (list_all (all_in_pair test) (dict_put pairs key v)) (first_passes pair pairs h) more
 
-  pub all_put : (v : Value) → IsTrue (test v) → (pairs : Pairs) → All pairs → All (dict_put pairs key v)
+  pub all_put : (v : Value) → IsTrue (test (value_of key)) → IsTrue (test v) → (pairs : Pairs) → All pairs → All (dict_put pairs key v)
   unfolding dict_put
-  all_put v fine [] h = and_both (test v) true fine refl
-  all_put v fine (pair ∷ pairs) h = put_here v fine pair pairs (same_key key pair.0) h (all_put v fine pairs (and_right (test pair.1) (list_all (λ p. test p.1) pairs) h))
+  all_put v good fine [] h = and_both (all_in_pair test (key, v)) true (and_both (test (value_of key)) (test v) good fine) refl
+  all_put v good fine (pair ∷ pairs) h = put_here v fine pair pairs (same_key key pair.0) h (all_put v good fine pairs (rest_passes pair pairs h))
 
   left_here : (pair : Key × Value) (pairs : Pairs) (b : Bool) → All (pair ∷ pairs) → All (dict_without pairs key) → All (cond b pairs (pair ∷ dict_without pairs key))
-  left_here pair pairs true h more = and_right (test pair.1) (list_all (λ p. test p.1) pairs) h
-  left_here pair pairs false h more = and_both (test pair.1) (list_all (λ p. test p.1) (dict_without pairs key)) (and_left (test pair.1) (list_all (λ p. test p.1) pairs) h) more
+  left_here pair pairs true h more = rest_passes pair pairs h
+  left_here pair pairs false h more = and_both (all_in_pair test pair) (list_all (all_in_pair test) (dict_without pairs key)) (first_passes pair pairs h) more
 
   pub all_without : (pairs : Pairs) → All pairs → All (dict_without pairs key)
   unfolding dict_without
   all_without [] h = refl
-  all_without (pair ∷ pairs) h = left_here pair pairs (same_key key pair.0) h (all_without pairs (and_right (test pair.1) (list_all (λ p. test p.1) pairs) h))
+  all_without (pair ∷ pairs) h = left_here pair pairs (same_key key pair.0) h (all_without pairs (rest_passes pair pairs h))
 
 -- ---- distinct keys
 

@@ -1,10 +1,14 @@
 -- Which references stay good when objects are added or changed.
 use Rattle.std.proofs.Common.{◌≡◌, ℕ, suc, zero, Bool, false, List, [], ◌∷◌, ◌++◌, map, refl, subst, IsTrue, Option, Some, None, slice_get, slice_set}
 use Rattle.std.specs.List.{list_all}
+use Rattle.star_value.specs.Keys.{value_of, value_step}
+use Rattle.star_value.specs.declared.key.Key.{Key, fold-roll-Key, ind-Key, map-Key, roll-Key}
+use Rattle.star_value.specs.declared.key.Key.TheOpen.{Key-F}
+use Rattle.star_value.specs.declared.value.Value.TheVariants as value
 use Rattle.star_value.specs.declared.value.Value.{Value, fold-roll-Value, ind-Value, roll-Value, map-Value}
 use Rattle.star_value.specs.declared.value.Value.TheOpen.{Value-F}
 use Rattle.star_meaning.specs.State.{Object, AList, ADict, AFunction}
-use Rattle.star_meaning.specs.Validity.{is_list, is_dict, is_function, fits, fits_step, all_in_object}
+use Rattle.star_meaning.specs.Validity.{is_list, is_dict, is_function, fits, fits_step, all_in_pair, all_in_object}
 use Rattle.heap_store.proofs.Tested.{and_left, and_right, and_both, all_mono}
 
 abbrev Objects : Type 0
@@ -43,9 +47,14 @@ module _ (old new : Objects) (stay : Stay old new) where
   pub fits_stays : (v : Value) → Stays v
   fits_stays = ind-Value Stays (λ x y is. subst (λ z. Stays (roll-Value z)) is (layer_stays y))
 
+  pair_stays : (pair : Key × Value) → IsTrue (all_in_pair (fits old) pair) → IsTrue (all_in_pair (fits new) pair)
+  pair_stays pair h =
+      and_both (fits new (value_of pair.0)) (fits new pair.1) (fits_stays (value_of pair.0) (and_left (fits old (value_of pair.0)) (fits old pair.1) h))
+      (fits_stays pair.1 (and_right (fits old (value_of pair.0)) (fits old pair.1) h))
+
   object_stays : (o : Object ℕ) → IsTrue (all_in_object (fits old) o) → IsTrue (all_in_object (fits new) o)
   object_stays (AList items) h = all_mono (fits old) (fits new) fits_stays items h
-  object_stays (ADict pairs) h = all_mono (λ pair. fits old pair.1) (λ pair. fits new pair.1) (λ pair. fits_stays pair.1) pairs h
+  object_stays (ADict pairs) h = all_mono (all_in_pair (fits old)) (all_in_pair (fits new)) pair_stays pairs h
   object_stays (AFunction cell number defaults) h = all_mono (fits old) (fits new) fits_stays defaults h
 
   pub object_fits : (o : Object ℕ) → IsTrue (all_in_object (fits old) o) → IsTrue (all_in_object (fits new) o)
@@ -56,6 +65,30 @@ module _ (old new : Objects) (stay : Stay old new) where
 
   pub globals_stay : (gs : List (List ℕ × Value)) → IsTrue (list_all (λ g. fits old g.1) gs) → IsTrue (list_all (λ g. fits new g.1) gs)
   globals_stay = all_mono (λ g. fits old g.1) (λ g. fits new g.1) (λ g. fits_stays g.1)
+
+-- ---- a key holds no reference
+
+module _ (os : Objects) where
+  abbrev KeyFits : Key → Type 0
+  KeyFits k = IsTrue (fits os (value_of k))
+
+  parts_fit : (all : List ((k : Key) × KeyFits k)) → IsTrue (list_all (λ b. b) (map (fits os) (map value_of (map (λ e. e.0) all))))
+  parts_fit [] = refl
+  parts_fit (e ∷ all) = and_both (fits os (value_of e.0)) (list_all (λ b. b) (map (fits os) (map value_of (map (λ f. f.0) all)))) e.1 (parts_fit all)
+
+  layer_fits : (x : Value-F Value) → IsTrue (fits_step os (map-Value Value Bool (fits os) x)) → IsTrue (fits os (roll-Value x))
+  unfolding fits
+  layer_fits x h = rw (fold-roll-Value Bool (fits_step os) x) h
+
+  key_layer : (y : Key-F ((k : Key) × KeyFits k)) → KeyFits (roll-Key (map-Key ((k : Key) × KeyFits k) Key (λ e. e.0) y))
+  key_layer (Key-F.Tuple all) = rw (fold-roll-Key Value value_step, ← value.rolls-Tuple (map value_of (map (λ e. e.0) all))) (layer_fits (Value-F.Tuple (map value_of (map (λ e. e.0) all))) (parts_fit all))
+  key_layer (Key-F.Text points) = rw (fold-roll-Key Value value_step, ← value.rolls-Text points) (layer_fits (Value-F.Text points) refl)
+  key_layer (Key-F.Int z) = rw (fold-roll-Key Value value_step, ← value.rolls-Int z) (layer_fits (Value-F.Int z) refl)
+  key_layer (Key-F.Bool b) = rw (fold-roll-Key Value value_step, ← value.rolls-Bool b) (layer_fits (Value-F.Bool b) refl)
+  key_layer Key-F.None = rw (fold-roll-Key Value value_step, ← value.rolls-None) (layer_fits Value-F.None refl)
+
+  pub key_fits : (k : Key) → IsTrue (fits os (value_of k))
+  key_fits = ind-Key KeyFits (λ x y is. subst (λ z. KeyFits (roll-Key z)) is (key_layer y))
 
 -- ---- new and changed objects
 

@@ -9,7 +9,7 @@ ghost use Rattle.std.specs.Option.{option_copied};
 ghost use Rattle.heap_store.specs.Objects.{kind_of, defaults, with_defaults, with_nothing};
 ghost use Rattle.star_meaning.specs.State as state;
 ghost use Rattle.star_meaning.specs.State.{AList, ADict, AFunction};
-ghost use Rattle.star_meaning.specs.Validity.{IsMachine, nothing_ran, fits, is_list, is_dict, is_function};
+ghost use Rattle.star_meaning.specs.Validity.{IsMachine, nothing_ran, fits, is_list, is_dict, is_function, has_32_bits};
 
 use crate::object::Object;
 use crate::{Kind, pairs};
@@ -24,7 +24,8 @@ use std::marker::Model;
 /// with the numbers from 0 on, and the nodes of the cells, in the order in which they ran.
 ///
 /// Every reference in a machine names an object of its kind, no key of a dict stands twice, at most
-/// 64 cells have run, and there are at most 1,000,000 objects for each of them. `docs/LANGUAGE.md`,
+/// 64 cells have run, and there are at most 1,000,000 objects for each of them. Names are texts of
+/// Unicode scalar values, and the numbers of nodes and functions have 32 bits. `docs/LANGUAGE.md`,
 /// "Values", says what lists, dicts and functions are.
 #[derive(Drop)]
 pub struct Machine {
@@ -85,6 +86,7 @@ impl Machine {
         ensures ok { OnOk result (self.new ≡ record self.old { ran = self.old.ran ++ node ∷ [] }) }
         ensures err { OnErr result (self.new ≡ self.old) }
     {
+        let _small = number_of(node);
         self.ran.push(node)?;
         Ok(())
     }
@@ -138,6 +140,8 @@ impl Machine {
         ensures ok { OnOk result (self.new ≡ record self.old { state = state.set_global self.old.state name.now value }) }
         ensures err { OnErr result (self.new ≡ self.old) }
     {
+        // The name is a text of Unicode scalar values.
+        let _characters = name.as_str();
         let Some(value) = rebind(&mut self.globals, name, value) else {
             return Ok(());
         };
@@ -187,6 +191,7 @@ impl Machine {
         ensures ok { IfOk result (λ id. (id ≡ state.next_id self.old.state) × (self.new ≡ record self.old { state = state.with_new self.old.state (AFunction cell number defaults) })) }
         ensures err { OnErr result (self.new ≡ self.old) }
     {
+        let _small = number_of(cell);
         let id = ObjectId(self.objects.len() as u32);
         self.objects.push(Object::function(cell, number, defaults))?;
         Ok(id)
@@ -330,6 +335,14 @@ impl Machine {
     {
         self.objects[id.0 as usize].set_default(place, value);
     }
+}
+
+/// The number of a node, which has 32 bits.
+fn number_of(node: NodeId) -> u32
+    ensures value { result ≡ node }
+    ensures small { IsTrue (has_32_bits node) }
+{
+    node.0
 }
 
 /// Gives a name that is bound this value, without a copy of the name; where it is not bound the

@@ -6,4 +6,4 @@ use Rattle.heap_store.proofs.machine.Machine.new_list.Goals as goal
 pub invariant_of-self-2 : goal.invariant_of-self-2
 invariant_of-self-2 c =
     rw (c.in_ok-push.ensures.items, c.list.ensures, c.in_ok-items.ensures)
-    (kept_new _ (AList c.args.items) c.self.invariant refl (rw (← c.self.view_is) at c.requires.fit) (rw (← c.self.view_is) at c.requires.room))
+    (kept_new _ (AList c.args.items) c.self.invariant refl refl (rw (← c.self.view_is) at c.requires.fit) (rw (← c.self.view_is) at c.requires.room))

@@ -10,7 +10,7 @@ pub invariant_of-self : goal.invariant_of-self
 invariant_of-self c =
     let before = c.self.inside.globals.entries in
     let e : c.rebind.new.globals.entries ≡ insert_entry text_cmp before c.args.name.now c.args.value = c.rebind.ensures.bound c.in_default.is in
-    rw e (kept_set_global _ c.args.name.now c.args.value c.self.invariant (rw (← c.self.view_is) at c.requires)
+    rw e (kept_set_global _ c.args.name.now c.args.value c.self.invariant c.as_str-characters.ensures.scalars (rw (← c.self.view_is) at c.requires)
     (subst (λ (entries : Globals). IsStrictlySortedBy text_cmp (keys_of entries)) e c.rebind.ensures.ordered))
 
 pub invariant_of-self-2 : goal.invariant_of-self-2
@@ -21,5 +21,5 @@ invariant_of-self-2 c =
     = c.in_ok-insert.ensures.entries ∙ ap (λ name. insert_entry text_cmp rest name c.in-Some.value) c.in_ok-name.ensures
     ∙ ap (λ v. insert_entry text_cmp rest c.args.name.now v) c.in-Some.ensures.free.0
     ∙ ap (λ entries. insert_entry text_cmp entries c.args.name.now c.args.value) c.in-Some.ensures.free.1 in
-    rw e (kept_set_global _ c.args.name.now c.args.value c.self.invariant (rw (← c.self.view_is) at c.requires)
+    rw e (kept_set_global _ c.args.name.now c.args.value c.self.invariant c.as_str-characters.ensures.scalars (rw (← c.self.view_is) at c.requires)
     (subst (λ (entries : Globals). IsStrictlySortedBy text_cmp (keys_of entries)) e c.in_ok-insert.ensures.ordered))
