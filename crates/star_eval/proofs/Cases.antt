@@ -1,5 +1,5 @@
 -- The meaning of each form of an expression, one equation a form.
-use Rattle.std.proofs.Common.{◌≡◌, refl, ap, sym, ◌∙◌, ℕ, ℤ, Bool, Option, Some, None, List, [], ◌∷◌, map}
+use Rattle.std.proofs.Common.{◌≡◌, refl, ap, ◌∙◌, ℕ, ℤ, Bool, Option, Some, None, List, [], ◌∷◌, map}
 use Rattle.std.specs.Str.{encode_utf8_all}
 use Rattle.star_syntax.specs.declared.expression.Expr.{Expr, fold-roll-Expr, map-Expr, roll-Expr}
 use Rattle.star_syntax.specs.declared.expression.Expr.TheOpen.{Expr-F}
@@ -16,7 +16,7 @@ use Rattle.star_syntax.specs.declared.operator.CompareOp.{CompareOp}
 use Rattle.star_eval.specs.declared.value.Value.{Value}
 use Rattle.star_eval.specs.declared.value.Value.TheVariants as value
 use Rattle.star_eval.specs.Steps.{World, Work, Undefined, and_then, pure}
-use Rattle.star_eval.specs.Meaning.{value_of, step, operation, look_up, chained, suffixed, link_work, suffix_work, arguments_work, named_work}
+use Rattle.star_eval.specs.Meaning.{value_of, step, operation, look_up, chained, suffixed, link_work, suffix_work}
 
 -- ---- what stands in the lists of a node, with the meanings of its operands
 

@@ -1,5 +1,5 @@
 -- What a look-up and a change of an ordered map of texts are on the list of its names.
-use Rattle.std.proofs.Common.{◌≡◌, ℕ, List, [], ◌∷◌, map, Option, refl, ap, sym, ◌∙◌, cond, true, false, Bool}
+use Rattle.std.proofs.Common.{◌≡◌, ℕ, List, [], ◌∷◌, Option, refl, ap, ◌∙◌, cond}
 use Rattle.std.specs.Prelude.{String, string_bytes}
 use Rattle.std.specs.declared.alloc.Global.{Global}
 use Rattle.std.specs.Map.{lookup}
@@ -11,7 +11,7 @@ use Rattle.std.specs.declared.cmp.Ordering.{Ordering}
 use Rattle.std.specs.declared.cmp.Ordering.TheVariants.{Less, Equal, Greater}
 use Rattle.star_eval.specs.declared.value.Value.{Value}
 use Rattle.star_eval.specs.Named.{named}
-use Rattle.star_eval.specs.State.{State, find, put}
+use Rattle.star_eval.specs.State.{find, put}
 
 pub find_named : (entries : List (String Global × Value)) (name : List ℕ)
     → lookup (λ k. is_eq (slice_cmp nat_cmp name (string_bytes k))) entries ≡ find (named entries) name

@@ -25,12 +25,11 @@ use Rattle.star_eval.specs.Thin.{is_operand_at, is_operand, is_add, is_term, is_
 use Rattle.star_eval.specs.declared.failure.Failure.{Failure}
 use Rattle.star_eval.specs.declared.value.Value.{Value}
 use Rattle.star_eval.specs.declared.value.Value.TheVariants as value
-use Rattle.star_eval.specs.declared.value.Builtin.{Builtin}
 use Rattle.star_eval.specs.declared.value.Builtin.TheVariants as builtin
 use Rattle.star_eval.specs.Weight.{weight}
 use Rattle.star_eval.specs.State.{State, find}
-use Rattle.star_eval.specs.Steps.{World, Outcome, Went, Failed, Undefined, Steps, Work, Doing, Fault, and_then, ◌>>=◌, ◌>>◌, pure, fail, located, located_at, charge, write, bound, or_else, bind, start}
-use Rattle.star_eval.specs.Meaning.{operation, look_up, builtin_of, of_int, sum, added, operator, chained, quoted, spaced, write_line, print, call, all, all_from, arguments_of, suffixed, step, value_of, link_work, suffix_work, store, store_at, show_last, shown, kind_of, started, small_of, in_order, is_none, statement_at, statement_of, ran_of, run_cell}
+use Rattle.star_eval.specs.Steps.{World, Outcome, Went, Failed, Undefined, Steps, Work, Fault, and_then, ◌>>=◌, pure, fail, located, located_at, charge, write, bound, or_else, bind, start}
+use Rattle.star_eval.specs.Meaning.{operation, look_up, builtin_of, of_int, sum, added, operator, chained, quoted, spaced, write_line, print, call, all, suffixed, step, value_of, link_work, suffix_work, store, store_at, show_last, shown, kind_of, started, small_of, in_order, is_none, statement_at, statement_of, ran_of, run_cell}
 use Rattle.star_eval.proofs.Cases.{value_name, value_int, value_chain, value_primary}
 
 -- the steps have an outcome in each world

@@ -1,6 +1,6 @@
 -- What cells mean: each form of an expression and of a statement by one clause, over the world with its steps left.
 -- A form that has no clause yet is `undefined`.
-use Rattle.std.specs.Prelude.{◌≡◌, ℕ, ◌+◌, ◌-◌, ◌^◌, nat_lt, if◌then◌else◌, Bool, true, false, ◌&&◌, List, [], ◌∷◌, ◌++◌, length, map, Option, Some, None, option_map, ℤ, pos, negsuc, ◌+ℤ◌, codes, bytes_eq}
+use Rattle.std.specs.Prelude.{ℕ, ◌+◌, ◌-◌, ◌^◌, nat_lt, if◌then◌else◌, Bool, true, false, ◌&&◌, List, [], ◌∷◌, ◌++◌, length, map, Option, Some, None, option_map, ℤ, pos, negsuc, ◌+ℤ◌, codes, bytes_eq}
 use Rattle.std.specs.Fmt.{signed_decimal}
 use Rattle.std.specs.List.{flat_map}
 use Rattle.std.specs.Str.{encode_utf8_all}
@@ -13,18 +13,15 @@ use Rattle.star_syntax.specs.declared.expression.Arguments.{Arguments}
 use Rattle.star_syntax.specs.declared.expression.Named.{Named}
 use Rattle.star_syntax.specs.declared.expression.ChainOp.{ChainOp}
 use Rattle.star_syntax.specs.declared.expression.ChainOp.TheVariants as chain
-use Rattle.star_syntax.specs.declared.operator.BinaryOp.{BinaryOp}
 use Rattle.star_syntax.specs.declared.operator.BinaryOp.TheVariants as binary
 use Rattle.star_syntax.specs.declared.statement.Statement.{Statement, out-Statement}
 use Rattle.star_syntax.specs.declared.statement.Statement.TheOpen.{Statement-F}
-use Rattle.star_syntax.specs.declared.statement.Line.{Line}
 use Rattle.star_syntax.specs.declared.statement.Small.{Small}
 use Rattle.star_syntax.specs.declared.statement.SmallKind.{SmallKind}
 use Rattle.star_syntax.specs.declared.statement.SmallKind.TheVariants as small
 use Rattle.star_syntax.specs.declared.statement.Module.{Module}
 use Rattle.star_eval.specs.declared.cell.Ran.{Ran}
 use Rattle.star_eval.specs.declared.cell.End.TheVariants as end
-use Rattle.star_eval.specs.declared.failure.Failure.{Failure}
 use Rattle.star_eval.specs.declared.failure.Failure.TheVariants as failure
 use Rattle.star_eval.specs.declared.value.Value.{Value}
 use Rattle.star_eval.specs.declared.value.Value.TheVariants as value
@@ -32,7 +29,7 @@ use Rattle.star_eval.specs.declared.value.Builtin.{Builtin}
 use Rattle.star_eval.specs.declared.value.Builtin.TheVariants as builtin
 use Rattle.star_eval.specs.Weight.{weight}
 use Rattle.star_eval.specs.State.{State, find}
-use Rattle.star_eval.specs.Steps.{World, Outcome, Went, Failed, Undefined, Steps, Work, Doing, Fault, and_then, ◌>>=◌, ◌>>◌, pure, fail, undefined, located, charge, write, bound, or_else, bind, start}
+use Rattle.star_eval.specs.Steps.{Outcome, Went, Failed, Undefined, Work, Doing, Fault, ◌>>=◌, ◌>>◌, pure, fail, undefined, located, charge, write, bound, or_else, bind, start}
 
 -- one step, the operation with its own charges, and the weight of its result, of which 1 is paid already
 unfoldable pub operation : Work Value → Work Value

@@ -1,5 +1,5 @@
 -- What running changes, and the steps that change it.
-use Rattle.std.specs.Prelude.{◌≡◌, ℕ, ◌-◌, nat_lt, if◌then◌else◌, List, [], ◌∷◌, ◌++◌, length, Option, Some, None, Result, Ok, Err}
+use Rattle.std.specs.Prelude.{◌≡◌, ℕ, ◌-◌, nat_lt, if◌then◌else◌, List, [], ◌++◌, Option, Some, None, Result, Ok, Err}
 use Rattle.star_eval.specs.declared.failure.Failure.{Failure}
 use Rattle.star_eval.specs.declared.failure.Failure.TheVariants as failure
 use Rattle.star_eval.specs.declared.stop.Stop.{Stop}

@@ -19,7 +19,7 @@ use Rattle.star_syntax.specs.declared.expression.Expr.TheVariants as e
 use Rattle.star_syntax.specs.Placement as rules
 use Rattle.star_syntax.specs.Placement.{Breach, InputNotLiteral, Use, Literal, Other, Seen, is_input, seen, layer_seen, suffix_uses, clause_uses, arguments_uses, optional_uses, step_uses, all_uses, head_uses, expr_sights}
 use Rattle.star_resolver.specs.Outcomes.{Names, Work, and_then, each}
-use Rattle.star_resolver.specs.Scans.{scan, names_input, literal, lone_literal, first_literal, name_read, scan_head, scan_optional, scan_step, scan_named, scan_suffix, scan_clause, scan_pair, scan_link, scan_arm}
+use Rattle.star_resolver.specs.Scans.{scan, names_input, literal, name_read, scan_head, scan_optional, scan_step, scan_named, scan_suffix, scan_clause, scan_pair, scan_link, scan_arm}
 use Rattle.star_resolver.proofs.Walks.{same_then, each-map, run, run-append, run-three, run-flat_map}
 
 at_layer : (d : Expr-F Expr) → seen (roll-Expr d) ≡ layer_seen (map-Expr Expr Seen seen d)
@@ -319,7 +319,8 @@ arms_again line last (x ∷ xs) n =
 -- ---- `input(TEXT)`
 
 lone_again : (head : Expr) (positional : List Expr) (named : List (Named Expr)) (comma : Bool) →
-    rules.first_literal (suffixes_in (seen_in (Expr-F.Primary head (Call (record { positional = positional; named = named; comma = comma }) ∷ [])))) ≡ lone_literal positional named comma
+    rules.first_literal (λ x. x.literal) (suffixes_in (seen_in (Expr-F.Primary head (Call (record { positional = positional; named = named; comma = comma }) ∷ []))))
+    ≡ rules.lone_literal literal positional named comma
 unfolding suffixes_in seen_in literal
 lone_again head [] named comma = refl
 lone_again head (x ∷ []) [] true = refl
@@ -327,7 +328,7 @@ lone_again head (x ∷ []) [] false = refl
 lone_again head (x ∷ []) (y ∷ ys) comma = refl
 lone_again head (x ∷ z ∷ zs) named comma = refl
 
-first_again : (head : Expr) (xs : List (Suffix Expr)) → rules.first_literal (suffixes_in (seen_in (Expr-F.Primary head xs))) ≡ first_literal xs
+first_again : (head : Expr) (xs : List (Suffix Expr)) → rules.first_literal (λ x. x.literal) (suffixes_in (seen_in (Expr-F.Primary head xs))) ≡ rules.first_literal literal xs
 unfolding suffixes_in seen_in
 first_again head [] = refl
 first_again head (Index at ∷ xs) = refl
@@ -420,8 +421,8 @@ scan-DictOver line key value clauses n = ap (λ tree. scan line tree n) (sym (e.
 pub scan-Primary : (line : ℕ) (head : Expr) (suffixes : List (Suffix Expr)) (n : Names) → scan line (e.Primary head suffixes) n ≡ (and_then (scan_head line head (name_read head suffixes) n) (each (scan_suffix line) suffixes))
 unfolding suffixes_in seen_in
 scan-Primary line head suffixes n = ap (λ tree. scan line tree n) (sym (e.rolls-Primary head suffixes)) ∙ from_layer line (Expr-F.Primary head suffixes) n
-    ∙ run-append line (head_uses (seen head) (rules.first_literal (suffixes_in (seen_in (Expr-F.Primary head suffixes))))) _ n
-    ∙ same_then _ _ _ _ (ap (λ o. run line (head_uses (seen head) o) n) (first_again head suffixes) ∙ head_again line head (first_literal suffixes) n) (suffixes_again line head suffixes)
+    ∙ run-append line (head_uses (seen head) (rules.first_literal (λ x. x.literal) (suffixes_in (seen_in (Expr-F.Primary head suffixes))))) _ n
+    ∙ same_then _ _ _ _ (ap (λ o. run line (head_uses (seen head) o) n) (first_again head suffixes) ∙ head_again line head (rules.first_literal literal suffixes) n) (suffixes_again line head suffixes)
 
 pub scan-Signed : (line : ℕ) (ops : List UnaryOp) (x : Expr) (n : Names) → scan line (e.Signed ops x) n ≡ (scan line x n)
 unfolding seen_in
@@ -446,6 +447,7 @@ scan-Not line count x n = ap (λ tree. scan line tree n) (sym (e.rolls-Not count
 pub scan-Conditional : (line : ℕ) (arms : List (Arm Expr)) (last : Expr) (n : Names) → scan line (e.Conditional arms last) n ≡ (and_then (each (scan_arm line) arms n) (scan line last))
 unfolding arms_in seen_in
 scan-Conditional line arms last n = ap (λ tree. scan line tree n) (sym (e.rolls-Conditional arms last)) ∙ from_layer line (Expr-F.Conditional arms last) n
-    ∙ run-append line _ (seen last).uses n ∙ same_then _ _ _ _ (arms_again line last arms n) (one_again line last)
+    ∙ run-append line (flat_map (λ arm. arm.value.uses ++ arm.condition.uses) (arms_in (seen_in (Expr-F.Conditional arms last)))) (seen last).uses n
+    ∙ same_then _ _ _ _ (arms_again line last arms n) (one_again line last)
 
 pub ruleset layers = (scan-Name, scan-Int, scan-Text, scan-None, scan-True, scan-False, scan-Paren, scan-Tuple, scan-List, scan-ListOver, scan-Dict, scan-DictOver, scan-Primary, scan-Signed, scan-Chain, scan-Compare, scan-Not, scan-Conditional)

@@ -1,5 +1,5 @@
 -- The walk over each form of a tree, over the walks of its parts.
-use Rattle.std.specs.Prelude.{ℕ, Bool, false, List, [], ◌∷◌, Option, Some, None, Ok, Err, if◌then◌else◌}
+use Rattle.std.specs.Prelude.{ℕ, Bool, List, [], ◌∷◌, Option, Some, None, Ok, Err, if◌then◌else◌}
 use Rattle.std.specs.FinSet as set
 use Rattle.star_syntax.specs.declared.expression.Link.{Link}
 use Rattle.star_syntax.specs.declared.expression.Arm.{Arm}
@@ -19,7 +19,7 @@ use Rattle.star_syntax.specs.declared.statement.Block.{Block}
 use Rattle.star_syntax.specs.declared.statement.Block.TheVariants.{Inline, Indented}
 use Rattle.star_syntax.specs.declared.statement.Branch.{Branch}
 use Rattle.star_syntax.specs.declared.statement.Statement.{Statement}
-use Rattle.star_syntax.specs.Placement.{Place, Parameter, Breach, MisplacedReturn, MisplacedBreak, InputNotLiteral, RepeatedParameter, is_input, seen, expr_sights, statement_sights}
+use Rattle.star_syntax.specs.Placement.{Place, Parameter, Breach, MisplacedReturn, MisplacedBreak, InputNotLiteral, RepeatedParameter, is_input, first_literal, seen, expr_sights, statement_sights}
 use Rattle.star_resolver.specs.Outcomes.{Names, Outcome, Work, and_then, each, walk}
 
 -- ---- expressions of the statement of a line
@@ -35,18 +35,9 @@ names_input x = (seen x).names_input
 unfoldable pub literal : Expr → Option (List ℕ)
 literal x = (seen x).literal
 
--- the literal of arguments that are one text literal, with nothing beside it
-abbrev pub lone_literal : List Expr → List (Named Expr) → Bool → Option (List ℕ)
-lone_literal (x ∷ []) [] false = literal x
-lone_literal _ _ _ = None
-
-abbrev pub first_literal : List (Suffix Expr) → Option (List ℕ)
-first_literal (Call given ∷ more) = lone_literal given.positional given.named given.comma
-first_literal _ = None
-
 -- the name that `input(TEXT)` reads, where an operand and its first suffix are that
 abbrev pub name_read : Expr → List (Suffix Expr) → Option (List ℕ)
-name_read head suffixes = if names_input head then first_literal suffixes else None
+name_read head suffixes = if names_input head then first_literal literal suffixes else None
 
 -- the name that is read, or else the operand
 abbrev pub scan_head : ℕ → Expr → Option (List ℕ) → Work

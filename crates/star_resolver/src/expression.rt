@@ -75,7 +75,7 @@ fn literal(tree: &Expr) -> Option<&Text>
 
 /// The literal of arguments that are one text literal, with nothing beside it.
 fn lone_literal(given: &Arguments<Expr>) -> Option<&Text>
-    ensures { option_copied result ≡ spec.lone_literal given.now.positional given.now.named given.now.comma }
+    ensures { option_copied result ≡ rules.lone_literal spec.literal given.now.positional given.now.named given.now.comma }
 {
     let [only] = given.positional.as_slice() else {
         return None;
@@ -312,12 +312,7 @@ fn links(
 
 /// The same of the arms of a conditional, in order.
 #[cycle(scan)]
-fn arms(
-    alloc: Global,
-    line: u32,
-    found: &mut Texts,
-    all: &[Arm<Expr>],
-) -> Result<(), ResolveFault>
+fn arms(alloc: Global, line: u32, found: &mut Texts, all: &[Arm<Expr>]) -> Result<(), ResolveFault>
     ensures { Gives (each (spec.scan_arm line) all.now found.old) result found.new }
 {
     for arm in all {

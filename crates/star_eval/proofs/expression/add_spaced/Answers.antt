@@ -1,5 +1,4 @@
 use Rattle.std.proofs.Common.{◌∙◌, ◌++◌, ◌∷◌, [], ap, append_assoc}
-use Rattle.star_eval.specs.Meaning.{quoted}
 use Rattle.star_eval.proofs.Literals.{chars_space}
 use Rattle.star_eval.proofs.expression.add_spaced.Goals as goal
 

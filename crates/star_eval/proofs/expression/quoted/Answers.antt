@@ -1,4 +1,4 @@
-use Rattle.std.proofs.Common.{◌≡◌, ◌∙◌, sym, ap, List, ℕ}
+use Rattle.std.proofs.Common.{◌≡◌, ◌∙◌, List, ℕ}
 use Rattle.std.proofs.lemmas.Result.{IfOk-weaker}
 use Rattle.star_eval.specs.declared.value.Builtin.{Builtin}
 use Rattle.star_eval.specs.declared.value.Builtin.TheVariants.{Print}

@@ -1,5 +1,4 @@
-use Rattle.std.proofs.Common.{◌≡◌, ◌++◌, ◌∷◌, [], ap, sym, ◌∙◌, append_assoc, List, ℕ}
-use Rattle.std.specs.Prelude.{codes}
+use Rattle.std.proofs.Common.{◌≡◌, ◌++◌, ◌∷◌, [], ap, sym, ◌∙◌, append_assoc}
 use Rattle.star_eval.specs.Steps.{Went, write, outermost}
 use Rattle.star_eval.proofs.Literals.{chars_newline}
 use Rattle.star_eval.proofs.run.Run.write.Goals as goal
