@@ -2,6 +2,7 @@
 -- are active again where steps do not fail.
 use Rattle.std.proofs.Common.{ℕ, List, [], ◌∷◌, map, Bool, refl}
 use Rattle.std.specs.Prelude.{Option, Some, None, option_map}
+use Rattle.star_syntax.specs.declared.expression.Arm.{Arm}
 use Rattle.star_syntax.specs.declared.expression.Clause.{Clause}
 use Rattle.star_syntax.specs.declared.expression.Clause.TheVariants as clause
 use Rattle.star_syntax.specs.declared.expression.Expr.{Expr}
@@ -23,15 +24,15 @@ use Rattle.star_meaning.specs.declared.flow.Flow.{Flow}
 use Rattle.star_meaning.specs.Steps.{Steps}
 use Rattle.star_meaning.specs.Builtins.{ByName}
 use Rattle.star_meaning.specs.World.{Course, Work, World}
-use Rattle.star_meaning.specs.Expressions.{Callee, Meant, Setting, called, chained, clauses_from, comprehension, display_pairs, front, loop_over, meant, method_called, named_values, next_item, parts, place, read_input, store_at, store_in, suffix_value, suffixed, tests_value, values}
+use Rattle.star_meaning.specs.Expressions.{Callee, Setting, called, chained, chosen, clauses_from, comprehension, display_pairs, front, loop_over, meant, method_called, named_values, next_item, parts, place, read_input, store_at, store_in, suffix_value, suffixed, tests_value, values}
 use Rattle.star_meaning.specs.Statements.{Filled, body_of, call_to, condition_of, echo_if, for_turns, in_sequence, iterated, kind_of, line_of, operator, run_body, small_of, statement_of}
 use Rattle.star_meaning.specs.Cells.{statements_from}
 use Rattle.star_meaning.specs.Renaming.{Names, SameSetting, SameCallee, SameMeant}
 use Rattle.star_meaning.proofs.Alone.{LeadsOn, leads_alone, leads_of, own}
 use Rattle.star_meaning.proofs.Equations.{clause_meant}
-use Rattle.star_meaning.proofs.Forms.{link_meant, named_meant, pair_meant, suffix_meant}
+use Rattle.star_meaning.proofs.Forms.{arm_meant, link_meant, named_meant, pair_meant, suffix_meant}
 use Rattle.star_meaning.proofs.RenamedExpressions.{Each, Both, Alike, AlikeClause, AlikeNamed, AlikePair, same_clauses_from, same_comprehension, same_display_pairs, same_loop_over, same_method_called, same_next_item, same_store_at, same_store_in, same_tests_value, same_values}
-use Rattle.star_meaning.proofs.RenamedForms.{AlikeLink, AlikeSuffix, front_alike, same_called, same_chained, same_meant, same_named_values, same_parts, same_place, same_read_input, same_suffix_value, same_suffixed}
+use Rattle.star_meaning.proofs.RenamedForms.{AlikeArm, AlikeLink, AlikeSuffix, front_alike, same_called, same_chained, same_chosen, same_meant, same_named_values, same_parts, same_place, same_read_input, same_suffix_value, same_suffixed}
 use Rattle.star_meaning.proofs.RenamedStatements.{same_body, same_call_to, same_condition, same_echo_if, same_for_turns, same_in_sequence, same_iterated, same_kind_of, same_line_of, same_operator, same_run_body, same_small_of, same_statement}
 use Rattle.star_meaning.proofs.RenamedCells.{same_statements_from}
 
@@ -79,6 +80,10 @@ module _ {C : Type 0} (setting : Setting C) (n : ℕ) where
   named_of [] = tt
   named_of (x ∷ xs) = (record { name_is = refl; value_is = of x.value }, named_of xs)
 
+  arms_of : (xs : List (Arm Expr)) → Each (AlikeArm ours setting setting itself call call calls) (map (arm_meant setting call) xs) (map (arm_meant setting call) xs)
+  arms_of [] = tt
+  arms_of (x ∷ xs) = (record { value_is = of x.value; condition_is = of x.condition }, arms_of xs)
+
   clause_of : (x : Clause Expr) → AlikeClause ours (clause_meant setting call x) (clause_meant setting call x)
   clause_of (clause.For targets over) = (all_of targets, of over)
   clause_of (clause.If condition) = of condition
@@ -90,8 +95,8 @@ module _ {C : Type 0} (setting : Setting C) (n : ℕ) where
   suffix_of : (x : Suffix Expr) → AlikeSuffix ours setting setting itself call call calls (suffix_meant setting call x) (suffix_meant setting call x)
   suffix_of (suffix.Index at) = of at
   suffix_of (suffix.Slice start stop by) = (both_of start, both_of stop, step_of by)
-  suffix_of (suffix.Call given) = (all_of given.positional, named_of given.named)
-  suffix_of (suffix.Method name given) = (refl, (all_of given.positional, named_of given.named))
+  suffix_of (suffix.Call given) = (all_of given.positional, named_of given.named, refl)
+  suffix_of (suffix.Method name given) = (refl, (all_of given.positional, named_of given.named, refl))
 
   suffixes_of : (xs : List (Suffix Expr)) → Each (AlikeSuffix ours setting setting itself call call calls) (map (suffix_meant setting call) xs) (map (suffix_meant setting call) xs)
   suffixes_of [] = tt
@@ -122,6 +127,9 @@ module _ {C : Type 0} (setting : Setting C) (n : ℕ) where
 
   pub chained_leads : (xs : List (Link Expr)) (v : Value) → Leading (chained setting call (map (link_meant setting call) xs) v)
   chained_leads xs v = leads_of setting.cell _ _ (same_chained ours setting setting itself call call calls _ _ (links_of xs) v)
+
+  pub chosen_leads : (xs : List (Arm Expr)) (e : Expr) → Leading (chosen setting call (map (arm_meant setting call) xs) (meant setting call e))
+  chosen_leads xs e = leads_of setting.cell _ _ (same_chosen ours setting setting itself call call calls _ _ _ _ (arms_of xs) (of e))
 
   pub suffix_leads : (x : Suffix Expr) (v : Value) → Leading (suffix_value setting call (suffix_meant setting call x) v)
   suffix_leads x v = leads_of setting.cell _ _ (same_suffix_value ours setting setting itself call call calls _ _ (suffix_of x) v)

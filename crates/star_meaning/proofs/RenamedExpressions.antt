@@ -22,7 +22,7 @@ use Rattle.star_meaning.specs.Values.{has}
 use Rattle.star_meaning.specs.World.{Work, World, acting, distinct, in_block, lock_of, unbound}
 use Rattle.star_meaning.specs.Expressions.{item_value, Callee, Meant, call_function, clause_names, clauses_from, compared, comprehension, dict_turn, display_pairs, input_value, list_turn, loop_over, method_called, named_from, new_key, next_item, optional_value, signed, step_value, store_at, store_each, store_in, store_items, tests_value, truth, values, values_from}
 use Rattle.star_meaning.specs.Renaming.{Names, under, Same, SameAt, SameSteps, SameCallee, SameMeant}
-use Rattle.star_meaning.proofs.Renamed.{same_then, same_pure, same_fail, same_charge}
+use Rattle.star_meaning.proofs.Renamed.{same_then, same_pure, same_fail}
 use Rattle.star_meaning.proofs.RenamedComparing.{same_if_then, same_compare, same_key_in}
 use Rattle.star_meaning.proofs.RenamedShowing.{is_true_as, same_items_of, same_new_tuple}
 use Rattle.star_meaning.proofs.RenamedOperators.{same_charged_list, same_store, same_unary, same_unpacked}

@@ -338,7 +338,7 @@ module _ {C D : Type 0} (name : Names C D) (st : Setting C) (su : Setting D) (sa
     pub value_is : Alike name x.value y.value
     pub condition_is : Alike name x.condition y.condition
 
-  same_chosen : (xs : List (Arm (Meant C))) (ys : List (Arm (Meant D))) (m : Meant C) (n : Meant D) → Each AlikeArm xs ys → Alike name m n → SameSteps name (chosen st c xs m) (chosen su d ys n)
+  pub same_chosen : (xs : List (Arm (Meant C))) (ys : List (Arm (Meant D))) (m : Meant C) (n : Meant D) → Each AlikeArm xs ys → Alike name m n → SameSteps name (chosen st c xs m) (chosen su d ys n)
   same_chosen [] [] m n h k = k.value
   same_chosen (x ∷ xs) (y ∷ ys) m n h k =
       same_next name _ _ _ _ h.0.condition_is.value (λ v. same_next name _ _ _ _ (same_charging name 1) (λ _. same_next name _ _ _ _ (same_truth name v) (λ t.

@@ -5,7 +5,6 @@ use Rattle.star_syntax.specs.declared.expression.Clause.{Clause}
 use Rattle.star_syntax.specs.declared.expression.Clause.TheVariants as clause
 use Rattle.star_syntax.specs.declared.expression.Expr.{Expr, fold-roll-Expr, ind-Expr, map-Expr, roll-Expr}
 use Rattle.star_syntax.specs.declared.expression.Expr.TheOpen.{Expr-F}
-use Rattle.star_syntax.specs.CellParts.{CellParts}
 use Rattle.star_meaning.specs.Laws.{TargetsBindTheirNames}
 use Rattle.star_meaning.specs.Expressions.{Callee, Meant, Setting, clause_names, layer_names, meant, step, target_names}
 use Rattle.star_meaning.proofs.Equations.{clause_meant}
