@@ -8,3 +8,4 @@ pub mod FormatLemmas
 pub mod SameKeys
 pub mod KeyOrders
 pub mod RangeLaws
+pub mod KeyWrites

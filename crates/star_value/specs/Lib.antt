@@ -8,3 +8,4 @@ pub mod KeyOrder
 pub mod KeyLaws
 pub mod Ranges
 pub mod OrderLaws
+pub mod KeyHash

@@ -8,6 +8,7 @@ pub mod cutting;
 pub mod failure;
 pub mod finding;
 pub mod format;
+mod hashing;
 pub mod key;
 mod key_order;
 pub mod meter;
