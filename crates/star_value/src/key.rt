@@ -42,6 +42,17 @@ impl Key {
         }
     }
 
+    /// The key that a value is, as `of` answers it, from the value itself: a text is moved, and
+    /// only the parts of a tuple are copied.
+    pub fn from_value(alloc: Global, value: Value) -> Result<Key, Stop>
+        ensures { spec.AnswersKey (spec.key_of value) result }
+    {
+        match value {
+            Value::Text(text) => Ok(Key::Text(text)),
+            other => Key::of(alloc, &other),
+        }
+    }
+
     /// The value that the key is.
     #[cycle(value)]
     pub fn value(&self, alloc: Global) -> Result<Value, NoMemory>
