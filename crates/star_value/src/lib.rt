@@ -3,19 +3,19 @@
 //! one. Each call is its list function in `specs/`, beside want of memory.
 #![tactic(auto)]
 
-pub mod builtin;
-pub mod cutting;
-pub mod failure;
-pub mod finding;
-pub mod format;
+mod builtin;
+mod cutting;
+mod failure;
+mod finding;
+mod format;
 mod hashing;
-pub mod key;
+mod key;
 mod key_order;
-pub mod meter;
-pub mod range;
-pub mod stop;
-pub mod value;
-pub mod white;
+mod meter;
+mod range;
+mod stop;
+mod value;
+mod white;
 
 pub use builtin::Builtin;
 pub use cutting::{Texts, join, replace, split};
