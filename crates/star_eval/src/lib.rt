@@ -5,15 +5,15 @@
 //! must answer is the meaning in `specs/Meaning.antt`.
 #![tactic(auto)]
 
-pub mod cell;
-pub mod expression;
-pub mod failure;
-pub mod globals;
-pub mod run;
-pub mod statement;
-pub mod stop;
-pub mod thin;
-pub mod value;
+mod cell;
+mod expression;
+mod failure;
+mod globals;
+mod run;
+mod statement;
+mod stop;
+mod thin;
+mod value;
 
 pub use cell::{End, Ran, RunFault, run_cell};
 pub use failure::Failure;
