@@ -3,7 +3,7 @@ ghost use Rattle.std.specs.Prelude.{◌≡◌, ◌≤◌, IfOk, IfErr, length};
 ghost use Rattle.std.specs.Str.{encode_utf8_all};
 ghost use Rattle.star_lexer.specs.Tokens.{Tokens};
 ghost use Rattle.star_parser.specs.Trees.{IsTree};
-ghost use Rattle.star_syntax.specs.Nesting.{IsEnded};
+ghost use Rattle.star_syntax.specs.Nesting.{IsEnded, IsShallow};
 ghost use Rattle.star_syntax.specs.Placement.{IsPlaced, AreInputNames};
 ghost use Rattle.chex_cli.specs.Cells as spec;
 
@@ -51,6 +51,7 @@ pub fn cell_of(alloc: Global, source: &Text) -> Result<Cell, CellFault>
 fn tokens_of(alloc: Global, source: &Text) -> Result<SpannedTokens, CellFault>
     requires { length (encode_utf8_all source.now) ≤ 65536 }
     ensures tokens { IfOk result (Tokens source.now) }
+    ensures nested { IfOk result IsShallow }
     ensures ended { IfOk result IsEnded }
     ensures fault { IfErr result (spec.IsFaultOf source.now) }
 {
@@ -66,7 +67,8 @@ fn tokens_of(alloc: Global, source: &Text) -> Result<SpannedTokens, CellFault>
 
 /// The tree of tokens.
 fn tree_of(alloc: Global, tokens: &[Spanned]) -> Result<Module, CellFault>
-    requires { IsEnded tokens.now }
+    requires nested { IsShallow tokens.now }
+    requires ended { IsEnded tokens.now }
     ensures tree { IfOk result (λ tree. IsTree tree tokens.now) }
     ensures fault { IfErr result (spec.IsUnexpectedIn tokens.now) }
 {

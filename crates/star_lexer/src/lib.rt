@@ -4,16 +4,16 @@
 //! is, and where Newline, Indent, Dedent and End stand, is written in docs/LANGUAGE.md.
 #![tactic(auto)]
 
-pub mod chars;
-pub mod error;
-pub mod keywords;
-pub mod layout;
-pub mod literal;
-pub mod marks;
-pub mod number;
-pub mod pieces;
-pub mod reserved;
-pub mod source;
+mod chars;
+mod error;
+mod keywords;
+mod layout;
+mod literal;
+mod marks;
+mod number;
+mod pieces;
+mod reserved;
+mod source;
 
 pub use error::{LexFault, LexKind};
 pub use source::{lex, one_answer};

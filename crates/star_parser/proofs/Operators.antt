@@ -20,7 +20,7 @@ use Rattle.star_parser.specs.declared.level.Level.{Level}
 use Rattle.star_parser.specs.declared.level.Level.TheVariants as level
 use Rattle.star_parser.specs.Reading.{Input, Reader, ◌>>=◌, ◌>>◌, pure, next, skip, kinds}
 use Rattle.star_parser.specs.Tables.{compare_op, expect_word, eat_word}
-use Rattle.star_parser.specs.Readers.{compared, compare_by, compare, conditional, whole_test}
+use Rattle.star_parser.specs.Readers.{compared, compare_by, compare}
 use Rattle.star_parser.specs.Ends.{reach, Ends}
 use Rattle.star_parser.proofs.Exact.{Exact, Then, Just, exact_then, exact_by, exact_same, exact_pure}
 use Rattle.star_parser.proofs.Steps.{Tok, exact_skip, some_token, exact_token_then, exact_last, exact_expect_word, exact_eat_word}

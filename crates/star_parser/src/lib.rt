@@ -4,17 +4,17 @@
 //! a cursor goes over the tokens once, and a rule that refuses leaves it at the refused token.
 #![tactic(auto)]
 
-pub mod compound;
-pub mod cursor;
-pub mod fault;
-pub mod grammar;
-pub mod header;
-pub mod layout;
-pub mod level;
-pub mod parser;
-pub mod small;
-pub mod target;
-pub mod terms;
+mod compound;
+mod cursor;
+mod fault;
+mod grammar;
+mod header;
+mod layout;
+mod level;
+mod parser;
+mod small;
+mod target;
+mod terms;
 
 pub use fault::ParseFault;
 pub use parser::{one_tree, parse};

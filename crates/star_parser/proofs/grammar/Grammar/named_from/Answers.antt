@@ -27,3 +27,9 @@ unfolding named_from
 returns-in_err-expect-2 g c =
     let e = one_more (λ n. named_from (expr c.args.self.now.depth) n c.loop-turn.positional c.loop-turn.named c.loop-turn.name c.loop-turn.tokens.rest.now) _ c.loop-turn._turn c.loop-turn-test.true c.loop-turn.invariant in
     first_of (search rules, grind (arith, common_steps))
+
+pub returns-then-eat-2 : goal.returns-then-eat-2
+unfolding named_from
+returns-then-eat-2 g c =
+    let e = one_more (λ n. named_from (expr c.args.self.now.depth) n c.loop-turn.positional c.loop-turn.named c.loop-turn.name c.loop-turn.tokens.rest.now) _ c.loop-turn._turn c.loop-turn-test.true c.loop-turn.invariant in
+    first_of (search rules, grind (arith, common_steps))
