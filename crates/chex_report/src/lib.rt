@@ -1,6 +1,6 @@
 //! The texts that a run prints beside the outputs of cells.
 #![tactic(auto)]
 
-pub mod headers;
+mod headers;
 
 pub use headers::header;

@@ -15,6 +15,6 @@ abbrev pub read_as : {T : Type 0} → (Data → Result T NbFault) → Option Dat
 read_as format None = Err NotJson
 read_as format (Some d) = format d
 
--- unless memory was wanting, the result is the due one: each refusal comes exactly where it is due
+-- unless memory was wanting, the result is what the bytes read as: each refusal comes exactly where it is theirs
 abbrev pub IsReading : {T : Type 0} → Result T NbFault → Result T NbFault → Type 0
-IsReading result due = MatchResult result (λ x. due ≡ Ok x) (λ e. (e ≡ NoMemory) ⊎ (due ≡ Err e))
+IsReading result reading = MatchResult result (λ x. reading ≡ Ok x) (λ e. (e ≡ NoMemory) ⊎ (reading ≡ Err e))

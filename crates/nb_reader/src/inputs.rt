@@ -47,17 +47,17 @@ fn limited(alloc: Global, members: &Map<String, Value>) -> Result<Inputs, NbFaul
             count: count as u64,
         });
     }
-    values(alloc, members)
+    all_inputs(alloc, members)
 }
 
 // All names with their values, or the first bad one.
-fn values(alloc: Global, members: &Map<String, Value>) -> Result<Inputs, NbFault>
+fn all_inputs(alloc: Global, members: &Map<String, Value>) -> Result<Inputs, NbFault>
     ensures { IsReading result (values_of (members_view members.now.entries)) }
 {
     let mut inputs = Inputs::new(alloc);
     for (name, value) in members.iter() {
         let name = Text::from_str(alloc, name.as_str())?;
-        match input(alloc, value)? {
+        match input_in(alloc, value)? {
             None => return Err(NbFault::BadInput { name }),
             Some(value) => inputs.set(name, value)?,
         }
@@ -66,26 +66,26 @@ fn values(alloc: Global, members: &Map<String, Value>) -> Result<Inputs, NbFault
 }
 
 // The input that a value stands for, if it may stand for one.
-fn input(alloc: Global, value: &Value) -> Result<Option<Input>, NoMemory>
+fn input_in(alloc: Global, value: &Value) -> Result<Option<Input>, NoMemory>
     ensures { IfOk result (λ found. found ≡ input_of (view value.now)) }
 {
     match value {
         Value::Null => Ok(Some(Input::None)),
         Value::Bool(truth) => Ok(Some(Input::Bool(*truth))),
-        Value::Number(number) => Ok(integer(number).map(Input::Int)),
+        Value::Number(number) => Ok(integer_in(number).map(Input::Int)),
         Value::String(text) => Ok(Some(Input::Text(Text::from_str(alloc, text.as_str())?))),
-        Value::Array(values) => Ok(list(alloc, values.as_slice())?.map(Input::List)),
+        Value::Array(values) => Ok(list_in(alloc, values.as_slice())?.map(Input::List)),
         Value::Object(_) => Ok(None),
     }
 }
 
 // The items of a list, if each may stand in one.
-fn list(alloc: Global, values: &[Value]) -> Result<Option<InputList>, NoMemory>
+fn list_in(alloc: Global, values: &[Value]) -> Result<Option<InputList>, NoMemory>
     ensures { IfOk result (λ found. found ≡ list_of (items_view values.now)) }
 {
     let mut items = InputList::new(alloc);
     for value in values {
-        match item(alloc, value)? {
+        match item_in(alloc, value)? {
             None => return Ok(None),
             Some(item) => items.add(item)?,
         }
@@ -94,20 +94,20 @@ fn list(alloc: Global, values: &[Value]) -> Result<Option<InputList>, NoMemory>
 }
 
 // The item that a value stands for, if it may stand for one.
-fn item(alloc: Global, value: &Value) -> Result<Option<InputItem>, NoMemory>
+fn item_in(alloc: Global, value: &Value) -> Result<Option<InputItem>, NoMemory>
     ensures { IfOk result (λ found. found ≡ item_of (view value.now)) }
 {
     match value {
         Value::Null => Ok(Some(InputItem::None)),
         Value::Bool(truth) => Ok(Some(InputItem::Bool(*truth))),
-        Value::Number(number) => Ok(integer(number).map(InputItem::Int)),
+        Value::Number(number) => Ok(integer_in(number).map(InputItem::Int)),
         Value::String(text) => Ok(Some(InputItem::Text(Text::from_str(alloc, text.as_str())?))),
         Value::Array(_) | Value::Object(_) => Ok(None),
     }
 }
 
 // The integer that a number is, if it is one that fits `i64` or `u64`.
-fn integer(number: &Number) -> Option<i128>
+fn integer_in(number: &Number) -> Option<i128>
     ensures { result ≡ integer_of (number_view number.now) }
 {
     match number.as_i64() {

@@ -6,13 +6,13 @@
 //! is answered.
 #![tactic(auto)]
 
-pub mod entries;
-pub mod fault;
-pub mod inputs;
-pub mod json;
-pub mod manifest;
-pub mod notebook;
-pub mod sources;
+mod entries;
+mod fault;
+mod inputs;
+mod json;
+mod manifest;
+mod notebook;
+mod sources;
 
 pub use entries::Entries;
 pub use fault::{Counted, NbFault};
@@ -20,6 +20,3 @@ pub use inputs::read_inputs;
 pub use manifest::{Entry, Manifest, read_manifest};
 pub use notebook::read_notebook;
 pub use sources::Sources;
-
-#[cfg(test)]
-mod tests;

@@ -70,18 +70,18 @@ fn limited(alloc: Global, elements: &[Value]) -> Result<Manifest, NbFault>
             count: count as u64,
         });
     }
-    let versions = versions(alloc, elements)?;
+    let versions = versions_in(alloc, elements)?;
     distinct(alloc, versions)
 }
 
 // All versions, or the first element that is none.
-fn versions(alloc: Global, elements: &[Value]) -> Result<Entries, NbFault>
+fn versions_in(alloc: Global, elements: &[Value]) -> Result<Entries, NbFault>
     requires { length elements.now ≤ MOST_VERSIONS }
     ensures { IsReading result (versions_of 1 (items_view elements.now)) }
 {
     let mut versions = Entries::new(alloc);
     for (place, element) in elements.iter().enumerate() {
-        match version(alloc, element)? {
+        match version_in(alloc, element)? {
             None => {
                 return Err(NbFault::BadVersion {
                     index: place as u32 + 1,
@@ -116,7 +116,7 @@ fn is_among(versions: &[Entry], name: &Text) -> bool
 }
 
 // The version that an element stands for, if it may stand for one.
-fn version(alloc: Global, element: &Value) -> Result<Option<Entry>, NoMemory>
+fn version_in(alloc: Global, element: &Value) -> Result<Option<Entry>, NoMemory>
     ensures { IfOk result (λ found. found ≡ version_of (view element.now)) }
 {
     let Some(name) = element.get("name").and_then(Value::as_str) else {

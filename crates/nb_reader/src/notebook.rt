@@ -1,5 +1,5 @@
 //! Notebooks of format 4, as Jupyter and the tools that share its files write them.
-ghost use Rattle.std.specs.Prelude.{◌≡◌, ◌⊎◌, IfOk, option_map, string_bytes};
+ghost use Rattle.std.specs.Prelude.{◌≡◌, ◌≤◌, ◌⊎◌, IfOk, length, option_map, string_bytes};
 ghost use Rattle.serde_json.specs.View.{view, items_view};
 ghost use Rattle.nb_reader.specs.Reading.{IsReading};
 ghost use Rattle.nb_reader.specs.Notebook.{AreShort, notebook_of, sources_of, limited_to, cells_of, cell_of, cell_view, source_of, texts_of};
@@ -21,19 +21,22 @@ const MOST_CELLS: usize = 64;
 /// `cells` in order `BadCell` or `TooMany` of `CellBytes`, and last `TooMany` of `CodeCells`.
 /// Metadata, outputs, attachments and all that is not named there are passed over.
 ///
-/// A caller hands in at most 16,777,216 bytes, and counts them itself. The cost is linear.
+/// There are at most 64 sources, each of at most 65,536 bytes. A caller hands in at most 16,777,216
+/// bytes, and counts them itself. The cost is linear.
 pub fn read_notebook(alloc: Global, bytes: &[u8]) -> Result<Sources, NbFault>
     ensures read { IsReading result (notebook_of bytes.now) }
     ensures short { IfOk result AreShort }
+    ensures few { IfOk result (λ sources. length sources ≤ 64) }
 {
     let value = read_value(alloc, bytes)?;
-    sources(alloc, &value)
+    sources_in(alloc, &value)
 }
 
 // The sources in a value that was read.
-fn sources(alloc: Global, value: &Value) -> Result<Sources, NbFault>
+fn sources_in(alloc: Global, value: &Value) -> Result<Sources, NbFault>
     ensures read { IsReading result (sources_of (view value.now)) }
     ensures short { IfOk result AreShort }
+    ensures few { IfOk result (λ sources. length sources ≤ 64) }
 {
     if !value.is_object() {
         return Err(NbFault::NotObject);
@@ -52,6 +55,7 @@ fn sources(alloc: Global, value: &Value) -> Result<Sources, NbFault>
 fn limited(sources: Sources) -> Result<Sources, NbFault>
     ensures limited { result ≡ limited_to sources }
     ensures same { IfOk result (λ found. found ≡ sources) }
+    ensures few { IfOk result (λ found. length found ≤ 64) }
 {
     let count = sources.as_slice().len();
     if count > MOST_CELLS {

@@ -6,4 +6,4 @@ pub returns-then-count-gt-MOST_INPUTS : goal.returns-then-count-gt-MOST_INPUTS
 returns-then-count-gt-MOST_INPUTS c = inr (too_many c.args.members.now.entries c.len-count.result c.len-count.ensures.len (omega arith))
 
 pub returns : goal.returns
-returns c = rw (not_too_many c.args.members.now.entries c.len-count.result c.len-count.ensures.len (omega arith)) c.values.ensures
+returns c = rw (not_too_many c.args.members.now.entries c.len-count.result c.len-count.ensures.len (omega arith)) c.all_inputs.ensures

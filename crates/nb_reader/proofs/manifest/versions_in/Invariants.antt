@@ -1,7 +1,7 @@
 use Rattle.std.proofs.Common.{◌≡◌, ◌+◌, drop}
 use Rattle.serde_json.specs.View.{items_view}
 use Rattle.nb_reader.specs.Manifest.{versions_before, versions_of}
-use Rattle.nb_reader.proofs.manifest.versions.Given as goal
+use Rattle.nb_reader.proofs.manifest.versions_in.Given as goal
 
 abbrev pub invariant-loop-place : goal.invariant-loop-place
 invariant-loop-place l =

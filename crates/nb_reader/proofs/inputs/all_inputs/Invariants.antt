@@ -5,7 +5,7 @@ use Rattle.serde_json.specs.View.{members_view}
 use Rattle.chex_base.specs.TextOrder.{text_cmp}
 use Rattle.nb_reader.specs.Inputs.{inputs_before, values_of}
 use Rattle.nb_reader.proofs.InputsLemmas.{names_of}
-use Rattle.nb_reader.proofs.inputs.values.Given as goal
+use Rattle.nb_reader.proofs.inputs.all_inputs.Given as goal
 
 abbrev pub invariant-loop-name : goal.invariant-loop-name
 invariant-loop-name l = record {

@@ -3,7 +3,7 @@ use Rattle.std.specs.Str.{chars}
 use Rattle.chex_base.specs.Inputs.{with_value}
 use Rattle.chex_base.proofs.InputsLemmas.{with_value-last}
 use Rattle.nb_reader.proofs.InputsLemmas.{name_of, names_of, names_of-sorted, nothing_before, names-one_more, one_more}
-use Rattle.nb_reader.proofs.inputs.values.Goals as goal
+use Rattle.nb_reader.proofs.inputs.all_inputs.Goals as goal
 
 pub loop-name-init : goal.loop-name-init
 loop-name-init c = record {
@@ -20,6 +20,6 @@ loop-name-preserved c =
     ∙ with_value-last c.loop-name.inputs (name_of c.in-Some.name.now) c.in-Some-2.value (names_of c.next.new.self) sorted in
     record {
       so_far = rw grown (one_more c.loop-name.inputs c.in-Some.name.now c.in-Some.value.now c.next.new.self c.in-Some-2.value _
-          (sym c.in_ok-input.ensures ∙ c.in-Some-2.is) (rw c.in-Some.ensures.steps at c.loop-name.invariant.so_far));
+          (sym c.in_ok-input_in.ensures ∙ c.in-Some-2.is) (rw c.in-Some.ensures.steps at c.loop-name.invariant.so_far));
       rising = rw (grown, names-one_more c.loop-name.inputs (name_of c.in-Some.name.now) c.in-Some-2.value (names_of c.next.new.self)) sorted;
     }

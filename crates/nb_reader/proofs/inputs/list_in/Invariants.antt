@@ -1,7 +1,7 @@
 use Rattle.std.proofs.Common.{◌≡◌, ◌++◌, drop, option_map}
 use Rattle.serde_json.specs.View.{items_view}
 use Rattle.nb_reader.specs.Inputs.{list_of}
-use Rattle.nb_reader.proofs.inputs.list.Given as goal
+use Rattle.nb_reader.proofs.inputs.list_in.Given as goal
 
 abbrev pub invariant-loop-value : goal.invariant-loop-value
 invariant-loop-value l =
