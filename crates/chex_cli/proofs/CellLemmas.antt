@@ -1,6 +1,5 @@
 -- A source gives a cell or is wrong, never both.
-use Rattle.std.proofs.Common.{◌≡◌, ◌⊎◌, inl, inr, get_or, ◌<◌, ◌≤◌, ◌+◌, ℕ, Bool, true, false, ◌&&◌, List, [], ◌∷◌, ◌++◌, length, take, drop, map, Option, Some, None, sym, ◌∙◌, ap, subst, refl, arith}
-use Rattle.std.specs.Prelude.{option_map}
+use Rattle.std.proofs.Common.{◌≡◌, ◌+◌, ℕ, true, List, [], ◌∷◌, ◌++◌, drop, Some, sym, ◌∙◌, ap, subst, refl}
 use Rattle.std.specs.List.{AllZip, list_all, slice_get}
 use Rattle.std.specs.Str.{chars, encode_utf8_all, all_scalars}
 use Rattle.std.proofs.lemmas.Str.{chars-encodes}
@@ -21,14 +20,10 @@ use Rattle.chex_cli.specs.declared.cell.Reason.{Reason}
 use Rattle.chex_cli.specs.declared.cell.Reason.TheVariants as reason
 use Rattle.chex_cli.specs.declared.version.Version.{Version}
 use Rattle.chex_cli.specs.declared.bad_cell.BadCell.{BadCell}
-use Rattle.chex_cli.specs.declared.runs.Runnable.{Runnable}
-use Rattle.chex_cli.specs.declared.runs.CellsFault.{CellsFault}
-use Rattle.chex_cli.specs.declared.runs.CellsFault.TheVariants as cells
-use Rattle.chex_cli.specs.declared.runs.RunsFault.{RunsFault}
-use Rattle.chex_cli.specs.declared.runs.RunsFault.TheVariants as runs
+use Rattle.chex_cli.specs.declared.checking.Runnable.{Runnable}
 use Rattle.chex_cli.specs.Cells.{IsCellOf, IsWrong, IsUnexpectedAt}
-use Rattle.chex_cli.specs.Jobs.{IsRunnable, AreRunnable, IsBadIn, IsFirstBad, IsFirstSource, IsFirstOf, IsFirstIn, IsNamed, is_thin_cell, is_thin_run, are_thin, AreAllShort}
-use Rattle.chex_cli.proofs.FirstLemmas.{first_here, first_apart}
+use Rattle.chex_cli.specs.Jobs.{IsRunnable, AreRunnable, IsBadIn, IsFirstBad, is_thin_cell, are_thin, AreAllShort}
+use Rattle.chex_cli.proofs.FirstLemmas.{first_apart}
 
 pub points : (source text : List ℕ) → text ≡ encode_utf8_all source → all_scalars source ≡ true → chars text ≡ source
 points source text bytes scalars = ap chars bytes ∙ chars-encodes source scalars
@@ -59,16 +54,6 @@ version_apart bad version run is wrong =
 -- where some source gives no cell, the versions do not all run
 pub bad_apart : (versions : List Version) (made : List Runnable) (bad : BadCell) → AreRunnable versions made → IsFirstBad versions bad → ⊥
 bad_apart versions made bad are first = first_apart IsRunnable IsBadIn versions made first.0 bad (λ version run. version_apart bad version run) are first.1
-
--- the first version with such a source, where a loop stops at it
-pub first_version : (versions : List Version) (i : ℕ) (made : List Runnable) (version : Version) (sources : List (List ℕ)) (fault : CellsFault) (result : RunsFault)
-    → i < length versions → version ≡ get_or versions i version → AllZip IsRunnable (take i versions) made → sources ≡ version.sources → IsFirstOf sources fault
-    → (result ≡ runs.NoMemory) ⊎ IsNamed version.name fault result → IsFirstIn versions result
-first_version versions i made version sources fault result inside here fine same first (inl none) = subst (IsFirstIn versions) (sym none) tt
-first_version versions i made version sources cells.NoMemory result inside here fine same first (inr none) = subst (IsFirstIn versions) (sym none) tt
-first_version versions i made version sources (cells.Bad cell why line) result inside here fine same first (inr named) =
-    let bad : BadCell = record { name = version.name; cell = cell; reason = why; line = line } in
-    subst (IsFirstIn versions) (sym named) (i + 1, first_here IsRunnable IsBadIn versions i made version bad inside here fine (refl, subst (λ xs. IsFirstSource xs cell why line) same first))
 
 -- the cells of a source have one tree
 pub same_tree : (source : List ℕ) (a b : CellParts) → IsCellOf source a → IsCellOf source b → a.module ≡ b.module

@@ -1,5 +1,5 @@
 -- What is due, and what is left where a status is due.
-use Rattle.std.proofs.Common.{◌≡◌, ◌≢◌, ◌⊎◌, ◌≤◌, ◌+◌, ℕ, Bool, true, false, ◌&&◌, List, [], ◌∷◌, ◌++◌, Option, Some, None, Result, Ok, Err, sym, ◌∙◌, ap, subst, refl, inl, inr, codes}
+use Rattle.std.proofs.Common.{◌≡◌, ◌≢◌, ◌⊎◌, ◌+◌, ℕ, Bool, true, false, ◌&&◌, List, [], ◌∷◌, ◌++◌, Option, Some, None, Result, Ok, Err, sym, ◌∙◌, ap, subst, refl, inl, inr}
 use Rattle.std.specs.Prelude.{IfSome, option_map, option_and_then}
 use Rattle.std.specs.List.{list_all}
 use Rattle.chex_base.specs.Outside.{Rose}
@@ -17,17 +17,15 @@ use Rattle.star_eval.proofs.ThinRuns.{thin_runs}
 use Rattle.chex_cli.specs.declared.refusal.Refusal.{Refusal}
 use Rattle.chex_cli.specs.declared.refusal.Refusal.TheVariants.{Usage, Absent, ReadFailed, BadFile, NoMemory}
 use Rattle.chex_cli.specs.declared.version.Job.{Job}
-use Rattle.chex_cli.specs.declared.version.Version.{Version}
-use Rattle.chex_cli.specs.declared.runs.Runnable.{Runnable}
+use Rattle.chex_cli.specs.declared.checking.Runnable.{Runnable}
 use Rattle.chex_cli.specs.Words.{command_of}
 use Rattle.chex_cli.specs.Refusals.{status_of, file_status, line_of}
-use Rattle.chex_cli.specs.Reads.{Told, Refuses, Answers, IsCounted}
-use Rattle.chex_cli.specs.Due.{due}
+use Rattle.chex_cli.specs.Reads.{FileView, Refuses, IsCounted}
+use Rattle.chex_cli.specs.Files.{job_at}
 use Rattle.chex_cli.specs.declared.bad_cell.BadCell.{BadCell}
-use Rattle.chex_cli.specs.BadCells as cells
-use Rattle.chex_cli.specs.Jobs.{IsRunnable, AreRunnable, IsFirstBad, is_thin_cell, is_thin_run, are_thin}
-use Rattle.chex_cli.specs.Texts.{text_by, version_text, run_text, job_text, front}
-use Rattle.chex_cli.specs.Ends.{IsRun, IsNotBuilt, IsRefusedCell, IsRefused, IsDecided, IsDue, Yields}
+use Rattle.chex_cli.specs.Jobs.{AreRunnable, IsFirstBad, is_thin_cell, is_thin_run, are_thin}
+use Rattle.chex_cli.specs.Texts.{text_by, version_text, run_text, job_text, header_if}
+use Rattle.chex_cli.specs.Ends.{IsDecided, IsDue, Yields}
 use Rattle.chex_cli.proofs.CellLemmas.{bad_apart, thin_same}
 
 file_write_fault : (fault : NbFault) → file_status fault ≡ ended.WriteFault → ⊥
@@ -51,8 +49,8 @@ refusal_write_fault (BadFile file fault) h = file_write_fault fault h
 refusal_write_fault NoMemory h = cc
 
 -- a failed write is never due
-pub due_write_fault : (told : Option Told) (words : List (List ℕ)) (status : Status) (text : List ℕ) → IsDue told words status text → status ≡ ended.WriteFault → ⊥
-due_write_fault told words status text is h = elim is [
+pub due_write_fault : (view : Option FileView) (words : List (List ℕ)) (status : Status) (text : List ℕ) → IsDue view words status text → status ≡ ended.WriteFault → ⊥
+due_write_fault view words status text is h = elim is [
   | inl run ↦ let both : ended.Done ≡ ended.WriteFault = sym run.0 ∙ h in cc
   | inr (inl not) ↦ let both : ended.NotBuilt ≡ ended.WriteFault = sym not.0 ∙ h in cc
   | inr (inr (inl bad)) ↦ let both : ended.BadCell ≡ ended.WriteFault = sym bad.0 ∙ h in cc
@@ -80,8 +78,8 @@ refusal_no_memory (BadFile file fault) some h = file_no_memory fault h
 refusal_no_memory NoMemory some h = some refl
 
 -- where memory was wanting, no text is due
-pub due_no_memory : (told : Option Told) (words : List (List ℕ)) (status : Status) (text : List ℕ) → IsDue told words status text → status ≡ ended.NoMemory → ⊥
-due_no_memory told words status text is h = elim is [
+pub due_no_memory : (view : Option FileView) (words : List (List ℕ)) (status : Status) (text : List ℕ) → IsDue view words status text → status ≡ ended.NoMemory → ⊥
+due_no_memory view words status text is h = elim is [
   | inl run ↦ let both : ended.Done ≡ ended.NoMemory = sym run.0 ∙ h in cc
   | inr (inl not) ↦ let both : ended.NotBuilt ≡ ended.NoMemory = sym not.0 ∙ h in cc
   | inr (inr (inl bad)) ↦ let both : ended.BadCell ≡ ended.NoMemory = sym bad.0 ∙ h in cc
@@ -170,29 +168,29 @@ job_some headed (run ∷ runs) thin h =
     by each.0 (job_some headed runs each.1) (run_text headed run) refl h
   where
     by : is_thin_run run ≡ true → (job_text headed runs ≡ None → ⊥) → (o : Option (List ℕ)) → run_text headed run ≡ o → option_and_then (λ text. option_map (λ rest. text ++ rest) (job_text headed runs)) o ≡ None → ⊥
-    by one more None is none = mapped_some (λ text. front headed run.name ++ text) (version_text 1 [] run.cells) (version_some 1 [] run.cells one) is
+    by one more None is none = mapped_some (λ text. header_if headed run.name ++ text) (version_text 1 [] run.cells) (version_some 1 [] run.cells one) is
     by one more (Some text) is none = mapped_some (λ rest. text ++ rest) (job_text headed runs) more none
 
 pub same_job : (i j : Job) (x : Result Job Refusal) → x ≡ Ok i → x ≡ Ok j → i ≡ j
 same_job i j x h k = cc
 
 -- what a decision yields where the files are told
-module _ (file : Told) (words : List (List ℕ)) (status : Status) (text : List ℕ) (is : IsDue (Some file) words status text) where
-  refusal_yields : (why r : Refusal) → why ≢ NoMemory → status ≡ status_of why → Refuses (due file words) why → (due file words).1 ≡ Err r → Yields (status_of r) status
+module _ (file : FileView) (words : List (List ℕ)) (status : Status) (text : List ℕ) (is : IsDue (Some file) words status text) where
+  refusal_yields : (why r : Refusal) → why ≢ NoMemory → status ≡ status_of why → Refuses (job_at file words) why → (job_at file words).1 ≡ Err r → Yields (status_of r) status
   refusal_yields Usage r some same h h' = let one : Usage ≡ r = cc in inl (same ∙ ap status_of one)
   refusal_yields (Absent f) r some same h h' = let one : Absent f ≡ r = cc in inl (same ∙ ap status_of one)
   refusal_yields (ReadFailed f) r some same h h' = inr (inr (inl same))
   refusal_yields (BadFile f fault) r some same h h' = let one : BadFile f fault ≡ r = cc in inl (same ∙ ap status_of one)
   refusal_yields NoMemory r some same h h' = absurd (some refl)
 
-  refusal_stops : (due_status : Status) (why : Refusal) (job : Job) → why ≢ NoMemory → status ≡ status_of why → Refuses (due file words) why → (due file words).1 ≡ Ok job → Yields due_status status
-  refusal_stops due_status Usage job some same h h' = cc
-  refusal_stops due_status (Absent f) job some same h h' = cc
-  refusal_stops due_status (ReadFailed f) job some same h h' = inr (inr (inl same))
-  refusal_stops due_status (BadFile f fault) job some same h h' = cc
-  refusal_stops due_status NoMemory job some same h h' = absurd (some refl)
+  refusal_stops : (wanted : Status) (why : Refusal) (job : Job) → why ≢ NoMemory → status ≡ status_of why → Refuses (job_at file words) why → (job_at file words).1 ≡ Ok job → Yields wanted status
+  refusal_stops wanted Usage job some same h h' = cc
+  refusal_stops wanted (Absent f) job some same h h' = cc
+  refusal_stops wanted (ReadFailed f) job some same h h' = inr (inr (inl same))
+  refusal_stops wanted (BadFile f fault) job some same h h' = cc
+  refusal_stops wanted NoMemory job some same h h' = absurd (some refl)
 
-  pub refused_yields : (r : Refusal) → (due file words).1 ≡ Err r → Yields (status_of r) status
+  pub refused_yields : (r : Refusal) → (job_at file words).1 ≡ Err r → Yields (status_of r) status
   refused_yields r h = elim is [
     | inl run ↦ let both : Ok run.1.job ≡ Err r = sym run.1.read ∙ h in cc
     | inr (inl not) ↦ let both : Ok not.2.job ≡ Err r = sym not.2.read ∙ h in cc
@@ -201,10 +199,10 @@ module _ (file : Told) (words : List (List ℕ)) (status : Status) (text : List 
   ]
 
   -- the versions of the two readings are the same
-  moved : (P : Job → Type 0) (i j : Job) → (due file words).1 ≡ Ok i → (due file words).1 ≡ Ok j → P i → P j
-  moved P i j h k x = subst P (same_job i j (due file words).1 h k) x
+  moved : (P : Job → Type 0) (i j : Job) → (job_at file words).1 ≡ Ok i → (job_at file words).1 ≡ Ok j → P i → P j
+  moved P i j h k x = subst P (same_job i j (job_at file words).1 h k) x
 
-  pub bad_cell_yields : (job : Job) (bad : BadCell) → (due file words).1 ≡ Ok job → IsFirstBad job.versions bad → Yields ended.BadCell status
+  pub bad_cell_yields : (job : Job) (bad : BadCell) → (job_at file words).1 ≡ Ok job → IsFirstBad job.versions bad → Yields ended.BadCell status
   bad_cell_yields job bad h first = elim is [
     | inl run ↦ absurd (bad_apart job.versions run.1.runs bad (moved (λ j. AreRunnable j.versions run.1.runs) run.1.job job run.1.read h run.1.are) first)
     | inr (inl not) ↦ absurd (bad_apart job.versions not.2.runs bad (moved (λ j. AreRunnable j.versions not.2.runs) not.2.job job not.2.read h not.2.are) first)
@@ -212,7 +210,7 @@ module _ (file : Told) (words : List (List ℕ)) (status : Status) (text : List 
     | inr (inr (inr why)) ↦ refusal_stops ended.BadCell why.why job why.some why.status_is why.is_due h
   ]
 
-  pub not_built_yields : (job : Job) (runs : List Runnable) → (due file words).1 ≡ Ok job → AreRunnable job.versions runs → are_thin runs ≡ false → Yields ended.NotBuilt status
+  pub not_built_yields : (job : Job) (runs : List Runnable) → (job_at file words).1 ≡ Ok job → AreRunnable job.versions runs → are_thin runs ≡ false → Yields ended.NotBuilt status
   not_built_yields job runs h are not_thin = elim is [
     | inl run ↦
         let same : are_thin run.1.runs ≡ are_thin runs = thin_same job.versions run.1.runs runs (moved (λ j. AreRunnable j.versions run.1.runs) run.1.job job run.1.read h run.1.are) are in
@@ -222,7 +220,7 @@ module _ (file : Told) (words : List (List ℕ)) (status : Status) (text : List 
     | inr (inr (inr why)) ↦ refusal_stops ended.NotBuilt why.why job why.some why.status_is why.is_due h
   ]
 
-  pub done_yields : (job : Job) (runs : List Runnable) → (due file words).1 ≡ Ok job → AreRunnable job.versions runs → are_thin runs ≡ true → Yields ended.Done status
+  pub done_yields : (job : Job) (runs : List Runnable) → (job_at file words).1 ≡ Ok job → AreRunnable job.versions runs → are_thin runs ≡ true → Yields ended.Done status
   done_yields job runs h are thin = elim is [
     | inl run ↦ inl run.0
     | inr (inl not) ↦
@@ -233,8 +231,8 @@ module _ (file : Told) (words : List (List ℕ)) (status : Status) (text : List 
   ]
 
 -- what is due where versions were read, and where a refusal came
-pub job_due : (told : Option Told) (words : List (List ℕ)) (job : Job) (status : Status) (text : List ℕ) → IfSome told (λ file. (due file words).1 ≡ Ok job)
-    → IsDecided job status text → IsDue told words status text
+pub job_due : (view : Option FileView) (words : List (List ℕ)) (job : Job) (status : Status) (text : List ℕ) → IfSome view (λ file. (job_at file words).1 ≡ Ok job)
+    → IsDecided job status text → IsDue view words status text
 job_due None words job status text read (inl run) = inl (run.0, tt)
 job_due (Some file) words job status text read (inl run) = inl (run.0, record { job = job; read = read; runs = run.1; are = run.2; thin = run.3; printed = run.4 })
 job_due None words job status text read (inr (inl not)) = inr (inl (not.0, not.1, tt))
@@ -242,40 +240,40 @@ job_due (Some file) words job status text read (inr (inl not)) = inr (inl (not.0
 job_due None words job status text read (inr (inr bad)) = inr (inr (inl (bad.0, tt)))
 job_due (Some file) words job status text read (inr (inr bad)) = inr (inr (inl (bad.0, record { job = job; read = read; bad = bad.1; first = bad.2; line = bad.3 })))
 
-pub refusal_due : (told : Option Told) (words : List (List ℕ)) (r : Refusal) (status : Status) (text : List ℕ) → IfSome told (λ file. Refuses (due file words) r)
-    → (r ≡ Usage → command_of words ≡ None) → (r ≢ NoMemory) × (status ≡ status_of r) × (text ≡ line_of r) → IsDue told words status text
-refusal_due told words r status text h worded is = inr (inr (inr (record { why = r; some = is.0; status_is = is.1; line = is.2; worded = worded; is_due = h })))
+pub refusal_due : (view : Option FileView) (words : List (List ℕ)) (r : Refusal) (status : Status) (text : List ℕ) → IfSome view (λ file. Refuses (job_at file words) r)
+    → (r ≡ Usage → command_of words ≡ None) → (r ≢ NoMemory) × (status ≡ status_of r) × (text ≡ line_of r) → IsDue view words status text
+refusal_due view words r status text h worded is = inr (inr (inr (record { why = r; some = is.0; status_is = is.1; line = is.2; worded = worded; is_due = h })))
 
 -- the same of each library
-pub all_some : (told : Option Told) (P : Told → Type 0) → ((file : Told) → P file) → IfSome told P
+pub all_some : (view : Option FileView) (P : FileView → Type 0) → ((file : FileView) → P file) → IfSome view P
 all_some None P h = tt
 all_some (Some file) P h = h file
 
-module _ (told : Option Told) (words : List (List ℕ)) (status : Status) (text : List ℕ) where
-  pub told_refused : IsDue told words status text → IfSome told (λ file. (r : Refusal) → (due file words).1 ≡ Err r → Yields (status_of r) status)
-  told_refused is = by told is
+module _ (view : Option FileView) (words : List (List ℕ)) (status : Status) (text : List ℕ) where
+  pub view_refused : IsDue view words status text → IfSome view (λ file. (r : Refusal) → (job_at file words).1 ≡ Err r → Yields (status_of r) status)
+  view_refused is = by view is
     where
-      by : (told : Option Told) → IsDue told words status text → IfSome told (λ file. (r : Refusal) → (due file words).1 ≡ Err r → Yields (status_of r) status)
+      by : (view : Option FileView) → IsDue view words status text → IfSome view (λ file. (r : Refusal) → (job_at file words).1 ≡ Err r → Yields (status_of r) status)
       by None is = tt
       by (Some file) is = refused_yields file words status text is
 
-  pub told_bad_cell : IsDue told words status text → IfSome told (λ file. (job : Job) (bad : BadCell) → (due file words).1 ≡ Ok job → IsFirstBad job.versions bad → Yields ended.BadCell status)
-  told_bad_cell is = by told is
+  pub view_bad_cell : IsDue view words status text → IfSome view (λ file. (job : Job) (bad : BadCell) → (job_at file words).1 ≡ Ok job → IsFirstBad job.versions bad → Yields ended.BadCell status)
+  view_bad_cell is = by view is
     where
-      by : (told : Option Told) → IsDue told words status text → IfSome told (λ file. (job : Job) (bad : BadCell) → (due file words).1 ≡ Ok job → IsFirstBad job.versions bad → Yields ended.BadCell status)
+      by : (view : Option FileView) → IsDue view words status text → IfSome view (λ file. (job : Job) (bad : BadCell) → (job_at file words).1 ≡ Ok job → IsFirstBad job.versions bad → Yields ended.BadCell status)
       by None is = tt
       by (Some file) is = bad_cell_yields file words status text is
 
-  pub told_not_built : IsDue told words status text → IfSome told (λ file. (job : Job) (runs : List Runnable) → (due file words).1 ≡ Ok job → AreRunnable job.versions runs → are_thin runs ≡ false → Yields ended.NotBuilt status)
-  told_not_built is = by told is
+  pub view_not_built : IsDue view words status text → IfSome view (λ file. (job : Job) (runs : List Runnable) → (job_at file words).1 ≡ Ok job → AreRunnable job.versions runs → are_thin runs ≡ false → Yields ended.NotBuilt status)
+  view_not_built is = by view is
     where
-      by : (told : Option Told) → IsDue told words status text → IfSome told (λ file. (job : Job) (runs : List Runnable) → (due file words).1 ≡ Ok job → AreRunnable job.versions runs → are_thin runs ≡ false → Yields ended.NotBuilt status)
+      by : (view : Option FileView) → IsDue view words status text → IfSome view (λ file. (job : Job) (runs : List Runnable) → (job_at file words).1 ≡ Ok job → AreRunnable job.versions runs → are_thin runs ≡ false → Yields ended.NotBuilt status)
       by None is = tt
       by (Some file) is = not_built_yields file words status text is
 
-  pub told_done : IsDue told words status text → IfSome told (λ file. (job : Job) (runs : List Runnable) → (due file words).1 ≡ Ok job → AreRunnable job.versions runs → are_thin runs ≡ true → Yields ended.Done status)
-  told_done is = by told is
+  pub view_done : IsDue view words status text → IfSome view (λ file. (job : Job) (runs : List Runnable) → (job_at file words).1 ≡ Ok job → AreRunnable job.versions runs → are_thin runs ≡ true → Yields ended.Done status)
+  view_done is = by view is
     where
-      by : (told : Option Told) → IsDue told words status text → IfSome told (λ file. (job : Job) (runs : List Runnable) → (due file words).1 ≡ Ok job → AreRunnable job.versions runs → are_thin runs ≡ true → Yields ended.Done status)
+      by : (view : Option FileView) → IsDue view words status text → IfSome view (λ file. (job : Job) (runs : List Runnable) → (job_at file words).1 ≡ Ok job → AreRunnable job.versions runs → are_thin runs ≡ true → Yields ended.Done status)
       by None is = tt
       by (Some file) is = done_yields file words status text is

@@ -15,14 +15,14 @@ use Rattle.chex_cli.specs.declared.refusal.Refusal.{Refusal}
 use Rattle.chex_cli.specs.declared.refusal.Refusal.TheVariants.{Usage, Absent, ReadFailed, BadFile, NoMemory}
 use Rattle.chex_cli.specs.declared.version.Job.{Job}
 use Rattle.chex_cli.specs.declared.version.Version.{Version}
-use Rattle.chex_cli.specs.declared.runs.Runnable.{Runnable}
+use Rattle.chex_cli.specs.declared.checking.Runnable.{Runnable}
 use Rattle.chex_cli.specs.Refusals.{status_of, line_of}
-use Rattle.chex_cli.specs.Reads.{Told, Refuses}
-use Rattle.chex_cli.specs.Due.{due}
+use Rattle.chex_cli.specs.Reads.{FileView, Refuses}
+use Rattle.chex_cli.specs.Files.{job_at}
 use Rattle.chex_cli.specs.BadCells as cells
 use Rattle.chex_cli.specs.Cells.{IsCellOf, IsWrong}
 use Rattle.chex_cli.specs.Jobs.{IsRunnable, AreRunnable, IsBadIn, IsFirstBad}
-use Rattle.chex_cli.specs.Texts.{text_by, version_text, run_text, job_text, front}
+use Rattle.chex_cli.specs.Texts.{text_by, version_text, run_text, job_text, header_if}
 use Rattle.chex_cli.specs.Ends.{IsRun, IsRefusedCell, IsRefused, IsDue}
 use Rattle.chex_cli.proofs.FirstLemmas.{first_once}
 use Rattle.chex_cli.proofs.CellLemmas.{cell_apart, version_apart, same_tree}
@@ -77,8 +77,8 @@ version_once (s ∷ ss) (x ∷ xs) (y ∷ ys) h k cell globals =
 
 run_once : (headed : Bool) (version : Version) (a b : Runnable) → IsRunnable version a → IsRunnable version b → run_text headed a ≡ run_text headed b
 run_once headed version a b h k =
-    ap (λ name. option_map (λ text. front headed name ++ text) (version_text 1 [] a.cells)) (h.0 ∙ sym k.0)
-    ∙ ap (option_map (λ text. front headed b.name ++ text)) (version_once version.sources a.cells b.cells h.1 k.1 1 [])
+    ap (λ name. option_map (λ text. header_if headed name ++ text) (version_text 1 [] a.cells)) (h.0 ∙ sym k.0)
+    ∙ ap (option_map (λ text. header_if headed b.name ++ text)) (version_once version.sources a.cells b.cells h.1 k.1 1 [])
 
 job_once : (headed : Bool) (versions : List Version) (a b : List Runnable) → AreRunnable versions a → AreRunnable versions b → job_text headed a ≡ job_text headed b
 unfolding job_text
@@ -96,8 +96,8 @@ job_once headed (v ∷ vs) (x ∷ xs) (y ∷ ys) h k =
 err_same : (a b : Refusal) (x : Result Job Refusal) → x ≡ Err a → x ≡ Err b → a ≡ b
 err_same a b x h k = cc
 
-module _ (file : Told) (words : List (List ℕ)) where
-  refusal_is : (why : Refusal) → why ≢ NoMemory → status_of why ≢ ended.ReadFault → Refuses (due file words) why → (due file words).1 ≡ Err why
+module _ (file : FileView) (words : List (List ℕ)) where
+  refusal_is : (why : Refusal) → why ≢ NoMemory → status_of why ≢ ended.ReadFault → Refuses (job_at file words) why → (job_at file words).1 ≡ Err why
   refusal_is Usage some sure h = h
   refusal_is (Absent f) some sure h = h
   refusal_is (ReadFailed f) some sure h = absurd (sure refl)
@@ -106,7 +106,7 @@ module _ (file : Told) (words : List (List ℕ)) where
 
   text_once : (a b : List ℕ) → IsRun file words a → IsRun file words b → a ≡ b
   text_once a b h k =
-      let job : h.job ≡ k.job = same_job h.job k.job (due file words).1 h.read k.read in
+      let job : h.job ≡ k.job = same_job h.job k.job (job_at file words).1 h.read k.read in
       let moved : AreRunnable k.job.versions h.runs = subst (λ j. AreRunnable j.versions h.runs) job h.are in
       let same : Some a ≡ Some b =
       sym h.printed ∙ ap (λ (j : Job). job_text j.headed h.runs) job ∙ job_once k.job.headed k.job.versions h.runs k.runs moved k.are ∙ k.printed in
@@ -114,19 +114,19 @@ module _ (file : Told) (words : List (List ℕ)) where
 
   line_once : (a b : List ℕ) → IsRefusedCell file words a → IsRefusedCell file words b → a ≡ b
   line_once a b h k =
-      let job : h.job ≡ k.job = same_job h.job k.job (due file words).1 h.read k.read in
+      let job : h.job ≡ k.job = same_job h.job k.job (job_at file words).1 h.read k.read in
       let moved : IsFirstBad k.job.versions h.bad = subst (λ j. IsFirstBad j.versions h.bad) job h.first in
       h.line ∙ ap cells.line_of (first_bad_once k.job.versions h.bad k.bad moved k.first) ∙ sym k.line
 
   module _ (status : Status) (sure : status ≢ ended.ReadFault) where
-    refused_is : (text : List ℕ) (is : IsRefused (Some file) words status text) → (due file words).1 ≡ Err is.why
+    refused_is : (text : List ℕ) (is : IsRefused (Some file) words status text) → (job_at file words).1 ≡ Err is.why
     refused_is text is = refusal_is is.why is.some (λ h. sure (is.status_is ∙ h)) is.is_due
 
     refused_once : (a b : List ℕ) → IsRefused (Some file) words status a → IsRefused (Some file) words status b → a ≡ b
-    refused_once a b h k = h.line ∙ ap line_of (err_same h.why k.why (due file words).1 (refused_is a h) (refused_is b k)) ∙ sym k.line
+    refused_once a b h k = h.line ∙ ap line_of (err_same h.why k.why (job_at file words).1 (refused_is a h) (refused_is b k)) ∙ sym k.line
 
     -- where a refusal is due, the files give no versions
-    no_versions : (text : List ℕ) (job : Job) → IsRefused (Some file) words status text → (due file words).1 ≡ Ok job → ⊥
+    no_versions : (text : List ℕ) (job : Job) → IsRefused (Some file) words status text → (job_at file words).1 ≡ Ok job → ⊥
     no_versions text job is read = let both : Err is.why ≡ Ok job = sym (refused_is text is) ∙ read in cc
 
     due_once : (a b : List ℕ) → IsDue (Some file) words status a → IsDue (Some file) words status b → a ≡ b
@@ -148,7 +148,7 @@ module _ (file : Told) (words : List (List ℕ)) where
     due_once a b (inr (inr (inr h))) (inr (inr (inr k))) = refused_once a b h k
 
 -- what was appended is the text that is due
-pub told_once : (told : Option Told) (words : List (List ℕ)) (status : Status) (text : List ℕ) (before now : Option (List ℕ)) → IsDue told words status text → GrewBy text before now
-    → IfSome told (λ file. (other : List ℕ) → IsDue (Some file) words status other → status ≢ ended.ReadFault → GrewBy other before now)
-told_once None words status text before now is grew = tt
-told_once (Some file) words status text before now is grew = λ other h sure. subst (λ t. GrewBy t before now) (due_once file words status sure text other is h) grew
+pub view_once : (view : Option FileView) (words : List (List ℕ)) (status : Status) (text : List ℕ) (before now : Option (List ℕ)) → IsDue view words status text → GrewBy text before now
+    → IfSome view (λ file. (other : List ℕ) → IsDue (Some file) words status other → status ≢ ended.ReadFault → GrewBy other before now)
+view_once None words status text before now is grew = tt
+view_once (Some file) words status text before now is grew = λ other h sure. subst (λ t. GrewBy t before now) (due_once file words status sure text other is h) grew

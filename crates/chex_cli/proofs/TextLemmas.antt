@@ -5,28 +5,27 @@ use Rattle.std.specs.Str.{encode_utf8_all}
 use Rattle.std.proofs.lemmas.List.{drop_more, drop_all}
 use Rattle.star_syntax.specs.CellParts.{CellParts}
 use Rattle.star_eval.specs.declared.cell.Ran.{Ran}
-use Rattle.star_eval.specs.declared.cell.End.{End}
 use Rattle.star_eval.specs.declared.cell.End.TheVariants as end
 use Rattle.star_eval.specs.declared.failure.Failure.{Failure}
 use Rattle.star_eval.specs.State.{State}
 use Rattle.star_eval.specs.Meaning.{run_cell}
-use Rattle.chex_cli.specs.declared.runs.Runnable.{Runnable}
+use Rattle.chex_cli.specs.declared.checking.Runnable.{Runnable}
 use Rattle.chex_cli.specs.Texts.{text_by, version_text, run_text, job_text, failed_text}
 
-front_none : (o : Option (List ℕ)) → option_map (λ rest. [] ++ rest) o ≡ o
-front_none None = refl
-front_none (Some text) = refl
+before_none : (o : Option (List ℕ)) → option_map (λ rest. [] ++ rest) o ≡ o
+before_none None = refl
+before_none (Some text) = refl
 
-front_more : (a b : List ℕ) (o : Option (List ℕ)) → option_map (λ rest. a ++ rest) (option_map (λ rest. b ++ rest) o) ≡ option_map (λ rest. (a ++ b) ++ rest) o
-front_more a b None = refl
-front_more a b (Some text) = ap Some (sym (append_assoc a b text))
+before_more : (a b : List ℕ) (o : Option (List ℕ)) → option_map (λ rest. a ++ rest) (option_map (λ rest. b ++ rest) o) ≡ option_map (λ rest. (a ++ b) ++ rest) o
+before_more a b None = refl
+before_more a b (Some text) = ap Some (sym (append_assoc a b text))
 
 -- what was written so far, before what the cells from this place on write, is the whole
 abbrev pub WrittenSo : List ℕ → ℕ → State → List CellParts → Type 0
 WrittenSo text place globals ms = option_map (λ rest. text ++ rest) (version_text (place + 1) globals (drop place ms)) ≡ version_text 1 [] ms
 
 pub written_first : (ms : List CellParts) → WrittenSo [] 0 [] ms
-written_first ms = front_none (version_text 1 [] ms)
+written_first ms = before_none (version_text 1 [] ms)
 
 rest_is : (ms : List CellParts) (place : ℕ) (m : CellParts) → place < length ms → m ≡ get_or ms place m → drop place ms ≡ m ∷ drop (place + 1) ms
 rest_is ms place m inside here = drop_more ms place m inside ∙ ap (λ x. x ∷ drop (place + 1) ms) (sym here)
@@ -58,7 +57,7 @@ module _ (text : List ℕ) (place : ℕ) (globals : State) (ms : List CellParts)
 
   pub written_more : (ran : Ran) (after : State) → run_cell m.module 1000000 globals ≡ Some (ran, after) → ran.end ≡ end.Done → WrittenSo (text ++ encode_utf8_all ran.out) (place + 1) after ms
   written_more ran after is done =
-      sym (front_more text (encode_utf8_all ran.out) (version_text (place + 1 + 1) after (drop (place + 1) ms)))
+      sym (before_more text (encode_utf8_all ran.out) (version_text (place + 1 + 1) after (drop (place + 1) ms)))
       ∙ (ap (λ e. option_map (λ rest. text ++ rest) (text_by (place + 1) ran.out e (version_text (place + 1 + 1) after (drop (place + 1) ms)))) (sym done) ∙ ran_here ran after is)
 
 pub written_last : (text : List ℕ) (place : ℕ) (globals : State) (ms : List CellParts) → length ms ≤ place → WrittenSo text place globals ms → Some text ≡ version_text 1 [] ms
@@ -71,7 +70,7 @@ abbrev pub JobSo : List ℕ → ℕ → Bool → List Runnable → Type 0
 JobSo text place headed runs = option_map (λ rest. text ++ rest) (job_text headed (drop place runs)) ≡ job_text headed runs
 
 pub job_first : (headed : Bool) (runs : List Runnable) → JobSo [] 0 headed runs
-job_first headed runs = front_none (job_text headed runs)
+job_first headed runs = before_none (job_text headed runs)
 
 run_at : (headed : Bool) (run : Runnable) (runs : List Runnable) → job_text headed (run ∷ runs) ≡ option_and_then (λ text. option_map (λ rest. text ++ rest) (job_text headed runs)) (run_text headed run)
 unfolding job_text
@@ -87,7 +86,7 @@ module _ (text : List ℕ) (place : ℕ) (headed : Bool) (runs : List Runnable) 
 
   pub job_more : (more : List ℕ) → Some more ≡ run_text headed run → JobSo (text ++ more) (place + 1) headed runs
   job_more more is =
-      sym (front_more text more (job_text headed (drop (place + 1) runs)))
+      sym (before_more text more (job_text headed (drop (place + 1) runs)))
       ∙ (ap (λ o. option_map (λ rest. text ++ rest) (option_and_then (λ text. option_map (λ rest. text ++ rest) (job_text headed (drop (place + 1) runs))) o)) is ∙ job_here)
 
 pub job_last : (text : List ℕ) (place : ℕ) (headed : Bool) (runs : List Runnable) → length runs ≤ place → JobSo text place headed runs → Some text ≡ job_text headed runs

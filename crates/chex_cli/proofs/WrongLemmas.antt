@@ -24,12 +24,12 @@ use Rattle.chex_cli.proofs.CellLemmas.{moved_tree, least_apart}
 -- what begins a tree does so up to each place in it
 begins_before : (tokens : Tokens) (m n : ℕ) → m ≤ n → Begins (take n tokens) → Begins (take m tokens)
 begins_before tokens m n before (cell, more, levelled, spelt) =
-    let front : take n tokens ≡ take m tokens ++ drop m (take n tokens) =
+    let prefix : take n tokens ≡ take m tokens ++ drop m (take n tokens) =
     sym (take-append-drop m (take n tokens)) ∙ ap (λ first. first ++ drop m (take n tokens)) (take-take m n tokens before) in (
       cell,
       drop m (take n tokens) ++ more,
       levelled,
-      spelt ∙ ap (λ first. first ++ more) front ∙ append_assoc (take m tokens) (drop m (take n tokens)) more,
+      spelt ∙ ap (λ first. first ++ more) prefix ∙ append_assoc (take m tokens) (drop m (take n tokens)) more,
     )
 
 not_before : (tokens : Tokens) (m n : ℕ) → IsLeast m tokens → IsLeast n tokens → m < n → ⊥

@@ -13,4 +13,4 @@ module _ {A B : Type 0} (R : A → B → Type 0) where
   pub zip_next : (xs : List A) (i : ℕ) (ys : List B) (x : A) (y : B) → i < length xs → x ≡ get_or xs i x → AllZip R (take i xs) ys → R x y
       → AllZip R (take (i + 1) xs) (ys ++ y ∷ [])
   zip_next xs i ys x y inside here h r =
-      subst (λ front. AllZip R front (ys ++ y ∷ [])) (sym (take_more xs i x inside ∙ ap (λ z. take i xs ++ z ∷ []) (sym here))) (zip_more (take i xs) ys x y h r)
+      subst (λ prefix. AllZip R prefix (ys ++ y ∷ [])) (sym (take_more xs i x inside ∙ ap (λ z. take i xs ++ z ∷ []) (sym here))) (zip_more (take i xs) ys x y h r)

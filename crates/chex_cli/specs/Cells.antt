@@ -1,5 +1,5 @@
 -- What the source of a cell gives: its cell, or what is wrong with it. The rules stand in docs/LANGUAGE.md.
-use Rattle.std.specs.Prelude.{◌≡◌, ℕ, List, Option, Some, option_map}
+use Rattle.std.specs.Prelude.{◌≡◌, ℕ, List, Some, option_map}
 use Rattle.std.specs.List.{AllByRecursion, slice_get}
 use Rattle.star_syntax.specs.declared.token.Spanned.{Spanned}
 use Rattle.star_syntax.specs.declared.statement.Module.{Module}

@@ -7,11 +7,7 @@ use Rattle.star_eval.specs.Thin.{is_thin}
 use Rattle.chex_cli.specs.declared.cell.Reason.{Reason}
 use Rattle.chex_cli.specs.declared.version.Version.{Version}
 use Rattle.chex_cli.specs.declared.bad_cell.BadCell.{BadCell}
-use Rattle.chex_cli.specs.declared.runs.Runnable.{Runnable}
-use Rattle.chex_cli.specs.declared.runs.CellsFault.{CellsFault}
-use Rattle.chex_cli.specs.declared.runs.CellsFault.TheVariants as cells
-use Rattle.chex_cli.specs.declared.runs.RunsFault.{RunsFault}
-use Rattle.chex_cli.specs.declared.runs.RunsFault.TheVariants as runs
+use Rattle.chex_cli.specs.declared.checking.Runnable.{Runnable}
 use Rattle.chex_cli.specs.Cells.{IsCellOf, IsWrong}
 
 -- each source of each version has at most 65,536 bytes
@@ -51,21 +47,6 @@ IsBadIn version bad = (bad.name ≡ version.name) × IsFirstSource version.sourc
 -- the first version with such a source, and the first there
 abbrev pub IsFirstBad : List Version → BadCell → Type 0
 IsFirstBad versions bad = (number : ℕ) × IsFirst IsRunnable IsBadIn versions number bad
-
--- ---- what a function says of a fault; of want of memory it says nothing
-
-abbrev pub IsFirstOf : List (List ℕ) → CellsFault → Type 0
-IsFirstOf sources (cells.Bad cell why line) = IsFirstSource sources cell why line
-IsFirstOf sources cells.NoMemory = Unit {0}
-
-abbrev pub IsFirstIn : List Version → RunsFault → Type 0
-IsFirstIn versions (runs.Bad bad) = IsFirstBad versions bad
-IsFirstIn versions runs.NoMemory = Unit {0}
-
--- the fault of the cells of the version of this name
-abbrev pub IsNamed : List ℕ → CellsFault → RunsFault → Type 0
-IsNamed name (cells.Bad cell why line) fault = fault ≡ runs.Bad (record { name = name; cell = cell; reason = why; line = line })
-IsNamed name cells.NoMemory fault = fault ≡ runs.NoMemory
 
 -- ---- the forms that run today
 

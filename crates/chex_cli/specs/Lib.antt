@@ -1,9 +1,10 @@
 pub mod Words
 pub mod Refusals
 pub mod Reads
-pub mod Due
+pub mod Files
 pub mod Cells
 pub mod BadCells
 pub mod Jobs
 pub mod Texts
 pub mod Ends
+pub mod Exits

@@ -1,5 +1,5 @@
 -- Readings of files in order: the names of the files that are looked at, and what they give or the first refusal.
-use Rattle.std.specs.Prelude.{◌≡◌, ◌⊎◌, ℕ, ◌≤◌, nat_lt, List, [], ◌∷◌, ◌++◌, length, Option, Some, None, Result, Ok, Err, if◌then◌else◌}
+use Rattle.std.specs.Prelude.{◌≡◌, ℕ, nat_lt, List, [], ◌∷◌, ◌++◌, length, Option, Some, None, Result, Ok, Err, if◌then◌else◌}
 use Rattle.std.specs.List.{Contains}
 use Rattle.std.specs.Str.{encode_utf8_all}
 use Rattle.chex_base.specs.Outside.{Rose}
@@ -10,8 +10,8 @@ use Rattle.chex_cli.specs.declared.refusal.Refusal.{Refusal}
 use Rattle.chex_cli.specs.declared.refusal.Refusal.TheVariants.{Usage, Absent, ReadFailed, BadFile, NoMemory}
 
 -- the bytes of each file, by the bytes of its name
-abbrev pub Told : Type 0
-Told = List ℕ → Option (List ℕ)
+abbrev pub FileView : Type 0
+FileView = List ℕ → Option (List ℕ)
 
 -- the names of the files that are looked at, each when it is next, and what they give
 abbrev pub Read : Type 0 → Type 0
@@ -37,7 +37,7 @@ found name None = Err (Absent name)
 found name (Some bytes) = counted name bytes
 
 -- the bytes of the file of this name, which is looked at
-unfoldable pub bytes_of : Told → List ℕ → Read (List ℕ)
+unfoldable pub bytes_of : FileView → List ℕ → Read (List ℕ)
 bytes_of file name = (name ∷ [], found name (file (encode_utf8_all name)))
 
 -- what a file's bytes are read as, or the file's refusal

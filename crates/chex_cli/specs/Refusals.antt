@@ -1,5 +1,5 @@
 -- The statuses and the lines of refusals. File names and names of inputs are given by their code points, and lines by their bytes.
-use Rattle.std.specs.Prelude.{ℕ, List, [], ◌∷◌, ◌++◌, Option, Some, None, codes}
+use Rattle.std.specs.Prelude.{ℕ, List, [], ◌++◌, Option, Some, None, codes}
 use Rattle.std.specs.Fmt.{decimal}
 use Rattle.std.specs.Str.{encode_utf8_all}
 use Rattle.chex_base.specs.declared.status.Status.{Status}

@@ -10,7 +10,7 @@ use Rattle.star_eval.specs.declared.failure.Failure.TheVariants as failure
 use Rattle.star_eval.specs.State.{State}
 use Rattle.star_eval.specs.Meaning.{run_cell}
 use Rattle.chex_report.specs.Headers.{header_of}
-use Rattle.chex_cli.specs.declared.runs.Runnable.{Runnable}
+use Rattle.chex_cli.specs.declared.checking.Runnable.{Runnable}
 
 -- how a failure is named in the text of a version
 unfoldable pub failure_name : Failure → List ℕ
@@ -49,13 +49,13 @@ version_text cell globals [] = Some []
 version_text cell globals (x ∷ xs) = option_and_then (λ p. text_by cell p.0.out p.0.end (version_text (cell + 1) p.1 xs)) (run_cell x.module 1000000 globals)
 
 -- the line before a version's text, where versions have one
-abbrev pub front : Bool → List ℕ → List ℕ
-front true name = encode_utf8_all (header_of name)
-front false name = []
+abbrev pub header_if : Bool → List ℕ → List ℕ
+header_if true name = encode_utf8_all (header_of name)
+header_if false name = []
 
 -- a version alone, from no globals
 abbrev pub run_text : Bool → Runnable → Option (List ℕ)
-run_text headed run = option_map (λ text. front headed run.name ++ text) (version_text 1 [] run.cells)
+run_text headed run = option_map (λ text. header_if headed run.name ++ text) (version_text 1 [] run.cells)
 
 -- the versions in order
 unfoldable pub job_text : Bool → List Runnable → Option (List ℕ)

@@ -1,7 +1,9 @@
 //! The top call.
-ghost use Rattle.std.specs.Prelude.{◌≡◌, ◌≢◌, None, Some, Ok, Err, true, false, IfSome, List, map, string_bytes};
-ghost use Rattle.chex_base.specs.Outside.{Rose, GrewBy};
-ghost use Rattle.chex_cli.specs.Due.{due};
+ghost use Rattle.std.specs.Prelude.{◌≡◌, ◌≢◌, ◌≤◌, None, Some, Ok, Err, true, false, IfSome, List, map, string_bytes};
+ghost use Rattle.std.specs.Process.{exit_status};
+ghost use Rattle.chex_base.specs.Numbers.{number_of};
+ghost use Rattle.chex_base.specs.Outside.{GrewBy, Rose};
+ghost use Rattle.chex_cli.specs.Files.{job_at};
 ghost use Rattle.chex_cli.specs.Ends.{IsDue, Wrote, Yields};
 ghost use Rattle.chex_cli.specs.Refusals.{status_of};
 ghost use Rattle.chex_cli.specs.Jobs.{AreRunnable, IsFirstBad, are_thin};
@@ -10,11 +12,19 @@ ghost use Rattle.chex_cli.specs.Words.{command_of};
 use crate::decide::decide;
 use chex_base::{Library, NoMemory, Sink, Status};
 use std::alloc::Global;
+use std::process::ExitCode;
 
 /// How a call of `chex` ended.
 #[derive(Clone, Copy, Debug, PartialEq, Eq)]
 pub struct Finish {
     pub status: Status,
+}
+
+/// What the program exits with: the number of the status, which docs/FORMATS.md lists.
+pub fn exit_code(finish: &Finish) -> ExitCode
+    ensures { exit_status result ≡ number_of finish.now.status }
+{
+    ExitCode::from(finish.status.number())
 }
 
 /// Does what the words ask for: `solo NOTEBOOK` runs a notebook alone and writes what it prints,
@@ -31,7 +41,7 @@ pub fn chex<L: Library, W: Sink>(
     library: &mut L,
     out: &mut W,
 ) -> Finish
-    // What was written is the text that is due with the status; at `WriteFault` a front of a text that was due.
+    // What was written is the text that is due with the status; at `WriteFault` a prefix of a text that was due.
     ensures wrote { Wrote (IsDue (L.files library.old) (map string_bytes words.now)) result.status (W.held out.old) (W.held out.new) }
     // Over a library that tells its files, one text at most is due with a status but that of a failed read: what was written is that text.
     ensures exact { IfSome (L.files library.old) (λ file. (text : _) → IsDue (Some file) (map string_bytes words.now) result.status text → result.status ≢ Status.ReadFault
@@ -40,16 +50,19 @@ pub fn chex<L: Library, W: Sink>(
     ensures absent { result.status ≡ Status.Absent → Rose (L.absences library.old) (L.absences library.new) }
     ensures read { result.status ≡ Status.ReadFault → Rose (L.faults library.old) (L.faults library.new) }
     ensures write { result.status ≡ Status.WriteFault → Rose (W.faults out.old) (W.faults out.new) }
+    // No file is changed, and no count falls.
+    ensures files { L.files library.new ≡ L.files library.old }
+    ensures counts { (L.absences library.old ≤ L.absences library.new) × (L.faults library.old ≤ L.faults library.new) × (W.faults out.old ≤ W.faults out.new) }
     // Words that are no command are refused, unless memory is wanting or the write fails.
     ensures usage { command_of (map string_bytes words.now) ≡ None → Yields Status.Usage result.status }
     // So is what the words and the files refuse, with the status of the first refusal, unless a read fails too;
-    ensures refused { IfSome (L.files library.old) (λ file. (r : _) → (due file (map string_bytes words.now)).1 ≡ Err r → Yields (status_of r) result.status) }
+    ensures refused { IfSome (L.files library.old) (λ file. (r : _) → (job_at file (map string_bytes words.now)).1 ≡ Err r → Yields (status_of r) result.status) }
     // and so are versions of which some source gives no cell, and versions of which some cell is not thin. Versions whose cells all are thin run.
-    ensures bad_cell { IfSome (L.files library.old) (λ file. (job : _) (bad : _) → (due file (map string_bytes words.now)).1 ≡ Ok job → IsFirstBad job.versions bad
+    ensures bad_cell { IfSome (L.files library.old) (λ file. (job : _) (bad : _) → (job_at file (map string_bytes words.now)).1 ≡ Ok job → IsFirstBad job.versions bad
         → Yields Status.BadCell result.status) }
-    ensures not_built { IfSome (L.files library.old) (λ file. (job : _) (runs : _) → (due file (map string_bytes words.now)).1 ≡ Ok job → AreRunnable job.versions runs
+    ensures not_built { IfSome (L.files library.old) (λ file. (job : _) (runs : _) → (job_at file (map string_bytes words.now)).1 ≡ Ok job → AreRunnable job.versions runs
         → are_thin runs ≡ false → Yields Status.NotBuilt result.status) }
-    ensures done { IfSome (L.files library.old) (λ file. (job : _) (runs : _) → (due file (map string_bytes words.now)).1 ≡ Ok job → AreRunnable job.versions runs
+    ensures done { IfSome (L.files library.old) (λ file. (job : _) (runs : _) → (job_at file (map string_bytes words.now)).1 ≡ Ok job → AreRunnable job.versions runs
         → are_thin runs ≡ true → Yields Status.Done result.status) }
 {
     match decide(alloc, words, library) {

@@ -1,5 +1,5 @@
 //! What is to be written, made whole before the first write.
-ghost use Rattle.std.specs.Prelude.{◌≡◌, ◌≢◌, ◌⊎◌, None, Some, true, false, IfOk, map, string_bytes, codes};
+ghost use Rattle.std.specs.Prelude.{◌≡◌, ◌≢◌, ◌≤◌, ◌⊎◌, None, Some, true, false, IfOk, map, string_bytes, codes};
 ghost use Rattle.chex_base.specs.Outside.{Rose};
 ghost use Rattle.chex_cli.specs.Ends.{IsDue, IsDecided};
 ghost use Rattle.chex_cli.specs.Jobs.{AreAllShort, are_thin};
@@ -7,11 +7,11 @@ ghost use Rattle.chex_cli.specs.Refusals.{status_of, line_of};
 ghost use Rattle.chex_cli.specs.Texts.{job_text};
 ghost use Rattle.chex_cli.specs.Words.{command_of};
 
+use crate::checking::{Runnable, are_thin, runnables};
 use crate::decision::Decision;
-use crate::files::due;
+use crate::files::read_job;
 use crate::refusal::Refusal;
-use crate::runs::{Runnable, RunsFault, are_thin, runnables};
-use crate::texts::job_text;
+use crate::running::job_text;
 use crate::version::Job;
 use chex_base::{Library, NoMemory, Status};
 use std::alloc::Global;
@@ -26,8 +26,10 @@ pub fn decide<L: Library>(
     ensures absent { IfOk result (λ d. d.status ≡ Status.Absent → Rose (L.absences library.old) (L.absences library.new)) }
     ensures read { IfOk result (λ d. d.status ≡ Status.ReadFault → Rose (L.faults library.old) (L.faults library.new)) }
     ensures usage { command_of (map string_bytes words.now) ≡ None → IfOk result (λ d. d.status ≡ Status.Usage) }
+    ensures files { L.files library.new ≡ L.files library.old }
+    ensures counts { (L.absences library.old ≤ L.absences library.new) × (L.faults library.old ≤ L.faults library.new) }
 {
-    match due(alloc, words, library) {
+    match read_job(alloc, words, library) {
         Ok(job) => of_job(alloc, &job),
         Err(refusal) => refused(alloc, &refusal),
     }
@@ -51,13 +53,12 @@ fn of_job(alloc: Global, job: &Job) -> Result<Decision, NoMemory>
     requires { AreAllShort job.now.versions }
     ensures { IfOk result (λ d. IsDecided job.now d.status (string_bytes d.text)) }
 {
-    match runnables(alloc, job.versions.as_slice()) {
+    match runnables(alloc, job.versions.as_slice())? {
         Ok(runs) => of_runs(alloc, job.headed, &runs),
-        Err(RunsFault::Bad(bad)) => Ok(Decision {
+        Err(bad) => Ok(Decision {
             status: Status::BadCell,
             text: bad.line(alloc)?,
         }),
-        Err(RunsFault::NoMemory) => Err(NoMemory),
     }
 }
 

@@ -1,11 +1,15 @@
 //! Reads the files that the words name, in order and each anew, up to the first refusal.
-ghost use Rattle.std.specs.Prelude.{◌≡◌, ◌≤◌, ◌⊎◌, None, Ok, Err, IfOk, IfErr, IfSome, map, string_bytes};
-ghost use Rattle.chex_cli.specs.Reads as reads;
-ghost use Rattle.chex_cli.specs.Reads.{Answers, Refuses, IsCounted};
-ghost use Rattle.chex_cli.specs.Due as spec;
+ghost use Rattle.std.specs.Prelude.{◌≡◌, ◌≤◌, ◌⊎◌, ℕ, List, Result, None, Ok, Err, IfOk, IfErr, IfSome, map, string_bytes};
+ghost use Rattle.nb_reader.specs.Inputs.{inputs_file_of};
+ghost use Rattle.nb_reader.specs.Manifest.{manifest_of};
+ghost use Rattle.nb_reader.specs.Notebook.{AreShort, notebook_of};
+ghost use Rattle.nb_reader.specs.Reading.{IsReading};
+ghost use Rattle.nb_reader.specs.declared.fault.NbFault.{NbFault};
+ghost use Rattle.chex_cli.specs.Files as spec;
 ghost use Rattle.chex_cli.specs.Jobs.{AreAllShort};
-ghost use Rattle.nb_reader.specs.Notebook.{AreShort};
-ghost use Rattle.chex_cli.specs.Words.{command_of};
+ghost use Rattle.chex_cli.specs.Reads as reads;
+ghost use Rattle.chex_cli.specs.Reads.{Answers, IsCounted, Refuses};
+ghost use Rattle.chex_cli.specs.Words as asked;
 
 use crate::command::{Command, command_of};
 use crate::refusal::{Refusal, bad_file};
@@ -19,12 +23,62 @@ use std::alloc::Global;
 /// The most bytes of a file.
 const MOST_FILE: usize = 16_777_216;
 
+/// What a file may hold.
+trait Format {
+    /// What bytes stand for, or the first refusal of them.
+    ghost reading: { List ℕ → Result Self NbFault };
+
+    /// What is known of each that was read.
+    ghost kept: { Self → Type 0 };
+
+    /// Reads bytes, of which there are at most 16,777,216.
+    fn parse(alloc: Global, bytes: &[u8]) -> Result<Self, NbFault>
+        ensures read { IsReading result (reading bytes.now) }
+        ensures kept { IfOk result kept };
+}
+
+impl Format for Sources {
+    ghost reading = { notebook_of };
+
+    ghost kept = { AreShort };
+
+    fn parse(alloc: Global, bytes: &[u8]) -> Result<Sources, NbFault> {
+        read_notebook(alloc, bytes)
+    }
+}
+
+impl Format for Manifest {
+    ghost reading = { manifest_of };
+
+    ghost kept = { λ _. Unit {0} };
+
+    fn parse(alloc: Global, bytes: &[u8]) -> Result<Manifest, NbFault> {
+        read_manifest(alloc, bytes)
+    }
+}
+
+impl Format for Inputs {
+    ghost reading = { inputs_file_of };
+
+    ghost kept = { λ _. Unit {0} };
+
+    fn parse(alloc: Global, bytes: &[u8]) -> Result<Inputs, NbFault> {
+        read_inputs(alloc, bytes)
+    }
+}
+
 /// What the words and the files that they name call for.
-#[tactic(auto, unfolding(crate::specs::Due::due))]
-pub fn due<L: Library>(alloc: Global, words: &[String], library: &mut L) -> Result<Job, Refusal>
-    ensures due { IfSome (L.files library.old) (λ file. Answers (spec.due file (map string_bytes words.now)) result) }
-    ensures counted { IfErr result (λ r. ((r ≡ Refusal.Usage) × (command_of (map string_bytes words.now) ≡ None)) ⊎ IsCounted r (L.absences library.old) (L.absences library.new) (L.faults library.old) (L.faults library.new)) }
-    ensures usage { command_of (map string_bytes words.now) ≡ None → (result ≡ Err Refusal.Usage) ⊎ (result ≡ Err Refusal.NoMemory) }
+#[tactic(auto, unfolding(crate::specs::Files::job_at))]
+pub fn read_job<L: Library>(
+    alloc: Global,
+    words: &[String],
+    library: &mut L,
+) -> Result<Job, Refusal>
+    ensures read { IfSome (L.files library.old) (λ view. Answers (spec.job_at view (map string_bytes words.now)) result) }
+    ensures counted { IfErr result (λ r. ((r ≡ Refusal.Usage) × (asked.command_of (map string_bytes words.now) ≡ None)) ⊎ IsCounted r (L.absences library.old) (L.absences library.new) (L.faults library.old) (L.faults library.new)) }
+    ensures later { (L.absences library.old ≤ L.absences library.new) × (L.faults library.old ≤ L.faults library.new) }
+    ensures files { L.files library.new ≡ L.files library.old }
+    ensures usage { asked.command_of (map string_bytes words.now) ≡ None → (result ≡ Err Refusal.Usage) ⊎ (result ≡ Err Refusal.NoMemory) }
     ensures short { IfOk result (λ job. AreAllShort job.versions) }
 {
     match command_of(alloc, words)? {
@@ -39,32 +93,40 @@ fn command_job<L: Library>(
     library: &mut L,
     command: &Command,
 ) -> Result<Job, Refusal>
-    ensures due { IfSome (L.files library.old) (λ told. Answers (spec.command_due told command.now) result) }
+    ensures read { IfSome (L.files library.old) (λ view. Answers (spec.command_at view command.now) result) }
     ensures counted { IfErr result (λ r. IsCounted r (L.absences library.old) (L.absences library.new) (L.faults library.old) (L.faults library.new)) }
+    ensures later { (L.absences library.old ≤ L.absences library.new) × (L.faults library.old ≤ L.faults library.new) }
+    ensures files { L.files library.new ≡ L.files library.old }
     ensures short { IfOk result (λ job. AreAllShort job.versions) }
 {
     match command {
-        Command::Solo(file) => solo(alloc, library, file),
-        Command::Alone(file) => alone(alloc, library, file),
+        Command::Solo(name) => solo(alloc, library, name),
+        Command::Alone(name) => alone(alloc, library, name),
     }
 }
 
-fn solo<L: Library>(alloc: Global, library: &mut L, file: &Text) -> Result<Job, Refusal>
-    ensures due { IfSome (L.files library.old) (λ told. Answers (spec.solo_due told file.now) result) }
+/// The job of the notebook of this name alone.
+fn solo<L: Library>(alloc: Global, library: &mut L, name: &Text) -> Result<Job, Refusal>
+    ensures read { IfSome (L.files library.old) (λ view. Answers (spec.solo_at view name.now) result) }
     ensures counted { IfErr result (λ r. IsCounted r (L.absences library.old) (L.absences library.new) (L.faults library.old) (L.faults library.new)) }
+    ensures later { (L.absences library.old ≤ L.absences library.new) × (L.faults library.old ≤ L.faults library.new) }
+    ensures files { L.files library.new ≡ L.files library.old }
     ensures short { IfOk result (λ job. AreAllShort job.versions) }
 {
-    let sources = notebook(alloc, library, file)?;
+    let sources = file::<L, Sources>(alloc, library, name)?;
     Ok(solo_job(alloc, sources)?)
 }
 
-fn alone<L: Library>(alloc: Global, library: &mut L, file: &Text) -> Result<Job, Refusal>
-    ensures due { IfSome (L.files library.old) (λ told. Answers (spec.alone_due told file.now) result) }
+/// The job of the versions of the manifest of this name, each alone.
+fn alone<L: Library>(alloc: Global, library: &mut L, name: &Text) -> Result<Job, Refusal>
+    ensures read { IfSome (L.files library.old) (λ view. Answers (spec.alone_at view name.now) result) }
     ensures counted { IfErr result (λ r. IsCounted r (L.absences library.old) (L.absences library.new) (L.faults library.old) (L.faults library.new)) }
+    ensures later { (L.absences library.old ≤ L.absences library.new) × (L.faults library.old ≤ L.faults library.new) }
+    ensures files { L.files library.new ≡ L.files library.old }
     ensures short { IfOk result (λ job. AreAllShort job.versions) }
 {
-    let manifest = manifest(alloc, library, file)?;
-    let versions = versions(alloc, library, manifest.versions.as_slice())?;
+    let manifest = file::<L, Manifest>(alloc, library, name)?;
+    let versions = all_versions(alloc, library, manifest.versions.as_slice())?;
     Ok(Job {
         headed: true,
         versions,
@@ -88,33 +150,35 @@ fn solo_job(alloc: Global, sources: Sources) -> Result<Job, NoMemory>
 }
 
 /// The versions of a manifest, up to the first refusal.
-fn versions<L: Library>(
+fn all_versions<L: Library>(
     alloc: Global,
     library: &mut L,
     entries: &[Entry],
 ) -> Result<Versions, Refusal>
-    ensures due { IfSome (L.files library.old) (λ told. Answers (spec.versions_at told entries.now) result) }
+    ensures read { IfSome (L.files library.old) (λ view. Answers (spec.versions_at view entries.now) result) }
     ensures counted { IfErr result (λ r. IsCounted r (L.absences library.old) (L.absences library.new) (L.faults library.old) (L.faults library.new)) }
+    ensures later { (L.absences library.old ≤ L.absences library.new) × (L.faults library.old ≤ L.faults library.new) }
+    ensures files { L.files library.new ≡ L.files library.old }
     ensures short { IfOk result AreAllShort }
 {
     let mut versions = Versions::new(alloc);
     for entry in entries {
-        let version = version(alloc, library, entry)?;
+        let version = version_in(alloc, library, entry)?;
         versions.add(version)?;
     }
     Ok(versions)
 }
 
 /// A version of a manifest: its notebook is looked at first, and then its inputs.
-fn version<L: Library>(alloc: Global, library: &mut L, entry: &Entry) -> Result<Version, Refusal>
-    ensures due { IfSome (L.files library.old) (λ told. Answers (spec.version_at told entry.now) result) }
+fn version_in<L: Library>(alloc: Global, library: &mut L, entry: &Entry) -> Result<Version, Refusal>
+    ensures read { IfSome (L.files library.old) (λ view. Answers (spec.version_at view entry.now) result) }
     ensures counted { IfErr result (λ r. IsCounted r (L.absences library.old) (L.absences library.new) (L.faults library.old) (L.faults library.new)) }
     ensures later { (L.absences library.old ≤ L.absences library.new) × (L.faults library.old ≤ L.faults library.new) }
     ensures files { L.files library.new ≡ L.files library.old }
     ensures short { IfOk result (λ version. AreShort version.sources) }
 {
-    let sources = notebook(alloc, library, &entry.notebook)?;
-    let inputs = inputs(alloc, library, &entry.inputs)?;
+    let sources = file::<L, Sources>(alloc, library, &entry.notebook)?;
+    let inputs = named_inputs(alloc, library, &entry.inputs)?;
     Ok(Version {
         name: entry.name.copy(alloc)?,
         sources,
@@ -122,87 +186,59 @@ fn version<L: Library>(alloc: Global, library: &mut L, entry: &Entry) -> Result<
     })
 }
 
-/// The sources of a notebook's code cells.
-fn notebook<L: Library>(alloc: Global, library: &mut L, file: &Text) -> Result<Sources, Refusal>
-    ensures due { IfSome (L.files library.old) (λ told. Answers (spec.notebook_at told file.now) result) }
-    ensures counted { IfErr result (λ r. IsCounted r (L.absences library.old) (L.absences library.new) (L.faults library.old) (L.faults library.new)) }
-    ensures later { (L.absences library.old ≤ L.absences library.new) × (L.faults library.old ≤ L.faults library.new) }
-    ensures files { L.files library.new ≡ L.files library.old }
-    ensures short { IfOk result AreShort }
-{
-    let bytes = bytes(alloc, library, file)?;
-    match read_notebook(alloc, &bytes) {
-        Ok(sources) => Ok(sources),
-        Err(fault) => Err(bad_file(alloc, file, fault)),
-    }
-}
-
-/// A manifest.
-fn manifest<L: Library>(alloc: Global, library: &mut L, file: &Text) -> Result<Manifest, Refusal>
-    ensures due { IfSome (L.files library.old) (λ told. Answers (spec.manifest_at told file.now) result) }
-    ensures counted { IfErr result (λ r. IsCounted r (L.absences library.old) (L.absences library.new) (L.faults library.old) (L.faults library.new)) }
-    ensures later { (L.absences library.old ≤ L.absences library.new) × (L.faults library.old ≤ L.faults library.new) }
-    ensures files { L.files library.new ≡ L.files library.old }
-{
-    let bytes = bytes(alloc, library, file)?;
-    match read_manifest(alloc, &bytes) {
-        Ok(manifest) => Ok(manifest),
-        Err(fault) => Err(bad_file(alloc, file, fault)),
-    }
-}
-
 /// The inputs of a file, where a version names one.
-fn inputs<L: Library>(
+fn named_inputs<L: Library>(
     alloc: Global,
     library: &mut L,
-    file: &Option<Text>,
+    name: &Option<Text>,
 ) -> Result<Inputs, Refusal>
-    ensures due { IfSome (L.files library.old) (λ told. Answers (spec.inputs_at told file.now) result) }
+    ensures read { IfSome (L.files library.old) (λ view. Answers (spec.inputs_at view name.now) result) }
     ensures counted { IfErr result (λ r. IsCounted r (L.absences library.old) (L.absences library.new) (L.faults library.old) (L.faults library.new)) }
     ensures later { (L.absences library.old ≤ L.absences library.new) × (L.faults library.old ≤ L.faults library.new) }
     ensures files { L.files library.new ≡ L.files library.old }
 {
-    match file {
+    match name {
         None => Ok(Inputs::new(alloc)),
-        Some(file) => inputs_file(alloc, library, file),
+        Some(name) => file::<L, Inputs>(alloc, library, name),
     }
 }
 
-/// The inputs of this file.
-fn inputs_file<L: Library>(alloc: Global, library: &mut L, file: &Text) -> Result<Inputs, Refusal>
-    ensures due { IfSome (L.files library.old) (λ told. Answers (spec.inputs_of told file.now) result) }
+/// What the file of this name holds, or its first refusal.
+fn file<L: Library, F: Format>(alloc: Global, library: &mut L, name: &Text) -> Result<F, Refusal>
+    ensures read { IfSome (L.files library.old) (λ view. Answers (spec.file_at F.reading view name.now) result) }
     ensures counted { IfErr result (λ r. IsCounted r (L.absences library.old) (L.absences library.new) (L.faults library.old) (L.faults library.new)) }
     ensures later { (L.absences library.old ≤ L.absences library.new) × (L.faults library.old ≤ L.faults library.new) }
     ensures files { L.files library.new ≡ L.files library.old }
+    ensures kept { IfOk result F.kept }
 {
-    let bytes = bytes(alloc, library, file)?;
-    match read_inputs(alloc, &bytes) {
-        Ok(inputs) => Ok(inputs),
-        Err(fault) => Err(bad_file(alloc, file, fault)),
+    let bytes = bytes_of(alloc, library, name)?;
+    match F::parse(alloc, &bytes) {
+        Ok(held) => Ok(held),
+        Err(fault) => Err(bad_file(alloc, name, fault)),
     }
 }
 
 /// A file's bytes, which are counted first.
 #[tactic(auto, unfolding(crate::specs::Reads::bytes_of))]
-fn bytes<L: Library>(alloc: Global, library: &mut L, file: &Text) -> Result<Vec<u8>, Refusal>
-    ensures found { IfOk result (λ bytes. IfSome (L.files library.old) (λ told. (reads.bytes_of told file.now).1 ≡ Ok bytes.items)) }
-    ensures refused { IfErr result (λ r. IfSome (L.files library.old) (λ told. Refuses (reads.bytes_of told file.now) r)) }
+fn bytes_of<L: Library>(alloc: Global, library: &mut L, name: &Text) -> Result<Vec<u8>, Refusal>
+    ensures found { IfOk result (λ bytes. IfSome (L.files library.old) (λ view. (reads.bytes_of view name.now).1 ≡ Ok bytes.items)) }
+    ensures refused { IfErr result (λ r. IfSome (L.files library.old) (λ view. Refuses (reads.bytes_of view name.now) r)) }
     ensures counted { IfErr result (λ r. IsCounted r (L.absences library.old) (L.absences library.new) (L.faults library.old) (L.faults library.new)) }
     ensures later { (L.absences library.old ≤ L.absences library.new) × (L.faults library.old ≤ L.faults library.new) }
     ensures files { L.files library.new ≡ L.files library.old }
 {
-    match library.read(alloc, file.as_str(), MOST_FILE + 1) {
+    match library.read(alloc, name.as_str(), MOST_FILE + 1) {
         Found::NoMemory => Err(Refusal::NoMemory),
         Found::Failed => Err(Refusal::ReadFailed {
-            file: file.copy(alloc)?,
+            file: name.copy(alloc)?,
         }),
         Found::Absent => Err(Refusal::Absent {
-            file: file.copy(alloc)?,
+            file: name.copy(alloc)?,
         }),
         Found::Bytes(bytes) => {
             if bytes.len() > MOST_FILE {
                 return Err(Refusal::BadFile {
-                    file: file.copy(alloc)?,
+                    file: name.copy(alloc)?,
                     fault: NbFault::TooMany {
                         what: Counted::Bytes,
                         count: 16_777_217,

@@ -1,7 +1,7 @@
 use Rattle.std.proofs.Common.{Some, map, string_bytes, refl, inl, inr}
 use Rattle.chex_base.specs.declared.status.Status.TheVariants as ended
-use Rattle.chex_cli.proofs.EndLemmas.{due_no_memory, due_write_fault, all_some, told_refused, told_bad_cell, told_not_built, told_done}
-use Rattle.chex_cli.proofs.OnceLemmas.{told_once}
+use Rattle.chex_cli.proofs.EndLemmas.{due_no_memory, due_write_fault, all_some, view_refused, view_bad_cell, view_not_built, view_done}
+use Rattle.chex_cli.proofs.OnceLemmas.{view_once}
 use Rattle.chex_cli.proofs.chex.chex.Goals as goal
 
 pub returns-in-Err-clause-wrote : goal.returns-in-Err-clause-wrote
@@ -32,7 +32,7 @@ returns-in-Ok-write-clause-wrote g c =
 
 pub returns-in-Ok-write-clause-exact : goal.returns-in-Ok-write-clause-exact
 returns-in-Ok-write-clause-exact g c =
-    told_once (g.L.Library.files c.args.library.now) (map string_bytes c.args.words.now) c.in-Ok.decision.status (string_bytes c.in-Ok.decision.text) _ _ c.in-Ok.ensures.due
+    view_once (g.L.Library.files c.args.library.now) (map string_bytes c.args.words.now) c.in-Ok.decision.status (string_bytes c.in-Ok.decision.text) _ _ c.in-Ok.ensures.due
     (rw (← c.as_bytes.ensures.value) c.in-Ok-write.ensures.held)
 
 pub returns-in-Ok-write-clause-write : goal.returns-in-Ok-write-clause-write
@@ -44,19 +44,19 @@ returns-in-Ok-write-clause-usage g c = λ none. inl (c.in-Ok.ensures.usage none)
 
 pub returns-in-Ok-write-clause-refused : goal.returns-in-Ok-write-clause-refused
 returns-in-Ok-write-clause-refused g c =
-    told_refused (g.L.Library.files c.args.library.now) (map string_bytes c.args.words.now) c.in-Ok.decision.status (string_bytes c.in-Ok.decision.text) c.in-Ok.ensures.due
+    view_refused (g.L.Library.files c.args.library.now) (map string_bytes c.args.words.now) c.in-Ok.decision.status (string_bytes c.in-Ok.decision.text) c.in-Ok.ensures.due
 
 pub returns-in-Ok-write-clause-bad_cell : goal.returns-in-Ok-write-clause-bad_cell
 returns-in-Ok-write-clause-bad_cell g c =
-    told_bad_cell (g.L.Library.files c.args.library.now) (map string_bytes c.args.words.now) c.in-Ok.decision.status (string_bytes c.in-Ok.decision.text) c.in-Ok.ensures.due
+    view_bad_cell (g.L.Library.files c.args.library.now) (map string_bytes c.args.words.now) c.in-Ok.decision.status (string_bytes c.in-Ok.decision.text) c.in-Ok.ensures.due
 
 pub returns-in-Ok-write-clause-not_built : goal.returns-in-Ok-write-clause-not_built
 returns-in-Ok-write-clause-not_built g c =
-    told_not_built (g.L.Library.files c.args.library.now) (map string_bytes c.args.words.now) c.in-Ok.decision.status (string_bytes c.in-Ok.decision.text) c.in-Ok.ensures.due
+    view_not_built (g.L.Library.files c.args.library.now) (map string_bytes c.args.words.now) c.in-Ok.decision.status (string_bytes c.in-Ok.decision.text) c.in-Ok.ensures.due
 
 pub returns-in-Ok-write-clause-done : goal.returns-in-Ok-write-clause-done
 returns-in-Ok-write-clause-done g c =
-    told_done (g.L.Library.files c.args.library.now) (map string_bytes c.args.words.now) c.in-Ok.decision.status (string_bytes c.in-Ok.decision.text) c.in-Ok.ensures.due
+    view_done (g.L.Library.files c.args.library.now) (map string_bytes c.args.words.now) c.in-Ok.decision.status (string_bytes c.in-Ok.decision.text) c.in-Ok.ensures.due
 
 pub returns-clause-wrote : goal.returns-clause-wrote
 returns-clause-wrote g c =
