@@ -81,4 +81,6 @@ pub fn chex<L: Library, W: Sink>(
 }
 
 #[cfg(test)]
+mod asked;
+#[cfg(test)]
 mod tests;

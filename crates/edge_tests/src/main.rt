@@ -46,7 +46,9 @@ fn main(rt: HostRuntime) -> io::Result<()> {
         match found {
             Found::Bytes(bytes) => {
                 let (count, sum) = (bytes.len(), sum_of(bytes.as_slice()));
-                println!(rt; "{name} up to {most}: {count} bytes of sum {sum}; faults {faults}, absences {absences}")?;
+                println!(rt;
+                    "{name} up to {most}: {count} bytes of sum {sum}; faults {faults}, absences {absences}"
+                )?;
             }
             Found::Absent => {
                 println!(rt; "{name} up to {most}: absent; faults {faults}, absences {absences}")?

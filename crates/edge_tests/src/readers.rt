@@ -1,6 +1,6 @@
 //! The readers on files as tools write them, at each refusal and at each limit.
-use nb_reader::{NbFault, read_inputs, read_manifest, read_notebook};
 use chex_base::Text;
+use nb_reader::{NbFault, read_inputs, read_manifest, read_notebook};
 use std::alloc::{AllocError, Global};
 use std::test::Fail;
 

@@ -58,8 +58,16 @@ fn a_read_gives_the_prefix_that_was_asked_for(rt: HostRuntime) {
             Found::Bytes(bytes) => Some(bytes.len()),
             _ => None,
         };
-        assert_eq!(rt; found, wanted, "{left} bytes, {at_once} at once, up to {most}");
-        assert_eq!(rt; source.asked, asked, "{left} bytes, {at_once} at once, up to {most}");
+        assert_eq!(rt;
+            found,
+            wanted,
+            "{left} bytes, {at_once} at once, up to {most}"
+        );
+        assert_eq!(rt;
+            source.asked,
+            asked,
+            "{left} bytes, {at_once} at once, up to {most}"
+        );
     }
 }
 
@@ -127,7 +135,11 @@ fn a_write_writes_the_whole_piece_or_counts(rt: HostRuntime) {
         let counted = out.faults();
         assert_eq!(rt; written, faults == 0, "{at_once} at once, {room} in all");
         assert_eq!(rt; counted, faults, "{at_once} at once, {room} in all");
-        assert_eq!(rt; target.taken.as_slice(), wanted.as_bytes(), "{at_once} at once, {room} in all");
+        assert_eq!(rt;
+            target.taken.as_slice(),
+            wanted.as_bytes(),
+            "{at_once} at once, {room} in all"
+        );
     }
 }
 
