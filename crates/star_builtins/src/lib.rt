@@ -23,6 +23,7 @@ mod repeating;
 pub mod showing;
 pub mod signs;
 pub mod slicing;
+mod texts;
 mod weighing;
 
 pub use bounds::Bounds;
