@@ -3,4 +3,3 @@ pub mod PairLemmas
 pub mod References
 pub mod Kept
 pub mod Bound
-pub mod Fitting

@@ -3,13 +3,10 @@
 //! read of it.
 #![tactic(auto)]
 
-pub mod kind;
-pub mod machine;
+mod kind;
+mod machine;
 mod object;
 mod pairs;
 
 pub use kind::Kind;
 pub use machine::Machine;
-
-#[cfg(test)]
-mod tests;

@@ -1,5 +1,5 @@
 -- What a call leaves: the machine itself, or the machine with one more list.
-use Rattle.std.proofs.Common.{◌≡◌, ℕ, List, [], ◌∷◌, ◌++◌, length, refl, sym, subst, ap, arith, Some, slice_get, length-append}
+use Rattle.std.proofs.Common.{IsTrue, ◌≡◌, ℕ, List, [], ◌∷◌, ◌++◌, length, refl, sym, subst, ap, arith, Some, slice_get, length-append}
 use Rattle.std.specs.List.{list_all}
 use Rattle.heap_store.proofs.Kept.{kept_new}
 use Rattle.heap_store.proofs.References.{fits_stays, stay_new}
@@ -8,12 +8,12 @@ use Rattle.star_syntax.specs.declared.cell.Program.{Program}
 use Rattle.star_value.specs.declared.value.Value.{Value}
 use Rattle.star_value.specs.declared.value.Value.TheVariants as value
 use Rattle.star_meaning.specs.State.{Object, AList}
-use Rattle.star_meaning.specs.Validity.{MachineState, IsValid, is_list, is_proper, is_defined, all_in_object}
+use Rattle.star_meaning.specs.Validity.{MachineState, IsValid, is_list, is_proper, is_defined, all_in_object, all_in}
 use Rattle.star_builtins.specs.Reached.{Fits, AllFit, HasRoom, Follows}
 use Rattle.star_builtins.proofs.FitLemmas.{references_list, proper_list}
 
 pub follows_same : (m : MachineState) → Follows m m
-follows_same m = record { ran = refl; fit = λ v h. h; few = omega arith; valid = λ program h. h }
+follows_same m = record { ran = refl; fit = λ v h. h; few = omega arith; proper = λ h. h; valid = λ program h. h }
 
 pub follows_equal : (before after : MachineState) → after ≡ before → Follows before after
 follows_equal before after same = subst (λ m. Follows before m) (sym same) (follows_same before)
@@ -38,13 +38,17 @@ fit_later m items v fit = record {
   proper = fit.proper;
 }
 
+proper_later : (m : MachineState) (items : List Value) → IsTrue (list_all is_proper items) → IsTrue (all_in is_proper m.state) → IsTrue (all_in is_proper (with_list m items).state)
+proper_later m items fit proper =
+    and_both (list_all (λ global. is_proper global.1) m.state.globals) (list_all (all_in_object is_proper) (m.state.objects ++ AList items ∷ []))
+    (and_left (list_all (λ global. is_proper global.1) m.state.globals) (list_all (all_in_object is_proper) m.state.objects) proper)
+    (all_push (all_in_object is_proper) m.state.objects (AList items)
+    (and_right (list_all (λ global. is_proper global.1) m.state.globals) (list_all (all_in_object is_proper) m.state.objects) proper) fit)
+
 valid_later : (m : MachineState) (items : List Value) (program : Program) → AllFit m items → HasRoom m → IsValid program m → IsValid program (with_list m items)
 valid_later m items program fit room valid = record {
-  kept = kept_new m (AList items) valid.kept refl fit.references room;
-  values = and_both (list_all (λ global. is_proper global.1) m.state.globals) (list_all (all_in_object is_proper) (m.state.objects ++ AList items ∷ []))
-      (and_left (list_all (λ global. is_proper global.1) m.state.globals) (list_all (all_in_object is_proper) m.state.objects) valid.values)
-      (all_push (all_in_object is_proper) m.state.objects (AList items)
-      (and_right (list_all (λ global. is_proper global.1) m.state.globals) (list_all (all_in_object is_proper) m.state.objects) valid.values) fit.proper);
+  kept = kept_new m (AList items) valid.kept refl refl fit.references room;
+  values = proper_later m items fit.proper valid.values;
   nodes = valid.nodes;
   functions = all_push (is_defined program m.ran) m.state.objects (AList items) valid.functions refl;
 }
@@ -54,6 +58,7 @@ follows_new m items fit room = record {
   ran = refl;
   fit = fit_later m items;
   few = simp length-append (omega arith);
+  proper = proper_later m items fit.proper;
   valid = λ program valid. valid_later m items program fit room valid;
 }
 

@@ -10,8 +10,9 @@ use Rattle.star_value.specs.declared.value.Value.TheOpen.{Value-F}
 use Rattle.star_value.specs.declared.value.Value.TheVariants as value
 use Rattle.star_value.specs.Keys.{value_of, value_step}
 use Rattle.star_meaning.specs.State.{Object, list, dict, dict_get, object}
-use Rattle.star_meaning.specs.Validity.{MachineState, IsMachine, is_list, is_dict, is_function, fits, fits_step, all_in_object}
+use Rattle.star_meaning.specs.Validity.{MachineState, IsMachine, is_list, is_dict, is_function, fits, fits_step, all_in_pair, all_in_object}
 use Rattle.star_builtins.specs.Weighing.{tuple_at, list_at, dict_at}
+use Rattle.heap_store.proofs.References as heap
 use Rattle.heap_store.proofs.Kept.{items_fit, pairs_fit}
 use Rattle.heap_store.proofs.Tested.{and_left, and_right, and_both}
 
@@ -22,7 +23,7 @@ pub list_fits : (m : MachineState) (id : ℕ) → IsMachine m → IsTrue (list_a
 unfolding list object
 list_fits m id kept = items_fit (fits m.state.objects) m.state.objects id (objects_fit m kept)
 
-pub dict_fits : (m : MachineState) (id : ℕ) → IsMachine m → IsTrue (list_all (λ pair. fits m.state.objects pair.1) (dict m.state id))
+pub dict_fits : (m : MachineState) (id : ℕ) → IsMachine m → IsTrue (list_all (all_in_pair (fits m.state.objects)) (dict m.state id))
 unfolding dict object
 dict_fits m id kept = pairs_fit (fits m.state.objects) m.state.objects id (objects_fit m kept)
 
@@ -64,27 +65,12 @@ got_fits p (y ∷ ys) zero x got h = let same : y ≡ x = cc in subst (λ z. IsT
 got_fits p (y ∷ ys) (suc i) x got h = got_fits p ys i x got (and_right (p y) (list_all p ys) h)
 
 pub value_fits : (m : MachineState) (id place : ℕ) (k : Key) (v : Value) → IsMachine m → slice_get (dict m.state id) place ≡ Some (k, v) → IsTrue (fits m.state.objects v)
-value_fits m id place k v kept got = got_fits (λ pair. fits m.state.objects pair.1) (dict m.state id) place (k, v) got (dict_fits m id kept)
+value_fits m id place k v kept got =
+    and_right (fits m.state.objects (value_of k)) (fits m.state.objects v) (got_fits (all_in_pair (fits m.state.objects)) (dict m.state id) place (k, v) got (dict_fits m id kept))
 
 -- a key refers to no object
-module _ (os : List (Object ℕ)) where
-  abbrev KeyFits : Key → Type 0
-  KeyFits k = IsTrue (fits os (value_of k))
-
-  parts_fit : (ks : List ((k : Key) × KeyFits k)) → IsTrue (list_all (fits os) (map value_of (map (λ e. e.0) ks)))
-  parts_fit [] = refl
-  parts_fit (k ∷ ks) = and_both (fits os (value_of k.0)) _ k.1 (parts_fit ks)
-
-  layer_fits : (y : Key-F ((k : Key) × KeyFits k)) → KeyFits (roll-Key (map-Key ((k : Key) × KeyFits k) Key (λ e. e.0) y))
-  unfolding fits
-  layer_fits Key-F.None = rw (fold-roll-Key Value value_step, ← value.rolls-None, fold-roll-Value Bool (fits_step os)) refl
-  layer_fits (Key-F.Bool truth) = rw (fold-roll-Key Value value_step, ← value.rolls-Bool truth, fold-roll-Value Bool (fits_step os)) refl
-  layer_fits (Key-F.Int number) = rw (fold-roll-Key Value value_step, ← value.rolls-Int number, fold-roll-Value Bool (fits_step os)) refl
-  layer_fits (Key-F.Text points) = rw (fold-roll-Key Value value_step, ← value.rolls-Text points, fold-roll-Value Bool (fits_step os)) refl
-  layer_fits (Key-F.Tuple parts) = rw (fold-roll-Key Value value_step, tuple_step os) (of_all os _ (parts_fit parts))
-
-  pub key_fits : (k : Key) → KeyFits k
-  key_fits = ind-Key KeyFits (λ x y is. subst (λ z. KeyFits (roll-Key z)) is (layer_fits y))
+pub key_fits : (os : List (Object ℕ)) (k : Key) → IsTrue (fits os (value_of k))
+key_fits = heap.key_fits
 
 -- ---- what a value is, if it is of one type
 
@@ -116,10 +102,11 @@ found_case : (p : Value → Bool) (b : Bool) (q v : Value) (rest : Option Value)
 found_case p true q v rest is here later = let same : q ≡ v = cc in subst (λ w. IsTrue (p w)) same here
 found_case p false q v rest is here later = later is
 
-found_fits : (p : Value → Bool) (pairs : List (Key × Value)) (k : Key) (v : Value) → Some v ≡ dict_get pairs k → IsTrue (list_all (λ pair. p pair.1) pairs) → IsTrue (p v)
+found_fits : (p : Value → Bool) (pairs : List (Key × Value)) (k : Key) (v : Value) → Some v ≡ dict_get pairs k → IsTrue (list_all (all_in_pair p) pairs) → IsTrue (p v)
 unfolding dict_get
 found_fits p [] k v is h = absurd (cc)
-found_fits p (pair ∷ pairs) k v is h = found_case p (same_key k pair.0) pair.1 v (dict_get pairs k) is (and_left (p pair.1) _ h) (λ later. found_fits p pairs k v later (and_right (p pair.1) _ h))
+found_fits p (pair ∷ pairs) k v is h = found_case p (same_key k pair.0) pair.1 v (dict_get pairs k) is
+    (and_right (p (value_of pair.0)) (p pair.1) (and_left (all_in_pair p pair) _ h)) (λ later. found_fits p pairs k v later (and_right (all_in_pair p pair) _ h))
 
 pub found_value_fits : (m : MachineState) (id : ℕ) (k : Key) (v : Value) → IsMachine m → Some v ≡ dict_get (dict m.state id) k → IsTrue (fits m.state.objects v)
 found_value_fits m id k v kept is = found_fits (fits m.state.objects) (dict m.state id) k v is (dict_fits m id kept)

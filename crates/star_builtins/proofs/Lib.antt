@@ -20,4 +20,3 @@ mod Charged
 mod Outs
 mod Weighed
 mod Ordered
-mod Samples

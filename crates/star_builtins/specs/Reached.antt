@@ -10,7 +10,7 @@ use Rattle.star_value.specs.Weight.{weight}
 use Rattle.star_meaning.specs.Steps.{Outcome, Went, Failed, Store, and_then, pure, charge, ◌>>◌}
 use Rattle.star_meaning.specs.Showing.{Naming}
 use Rattle.star_meaning.specs.Expressions.{name_of}
-use Rattle.star_meaning.specs.Validity.{MachineState, IsValid, fits, is_proper, function_at}
+use Rattle.star_meaning.specs.Validity.{MachineState, IsValid, all_in, fits, is_proper, function_at}
 
 -- what an operation meets of a machine and a meter: the state, and the steps that are left
 abbrev pub store : MachineState → ℕ → Store ℕ
@@ -20,8 +20,8 @@ store m left = record { state = m.state; left = left }
 abbrev pub names : Program → Naming ℕ
 names program cell number = name_of (function_at program cell number)
 
--- a value that may stand in a machine: each reference names an object of its kind, tuples nest at most 64 deep, and ranges
--- have a step other than 0
+-- a value that may stand in a machine: each reference names an object of its kind, integers have 128 bits, texts are Unicode
+-- scalar values, ranges have a step other than 0, and tuples nest at most 64 deep
 pub record Fits (m : MachineState) (v : Value) : Type 0 where
   pub references : IsTrue (fits m.state.objects v)
   pub proper : IsTrue (is_proper v)
@@ -36,11 +36,13 @@ abbrev pub HasRoom : MachineState → Type 0
 HasRoom m = length m.state.objects < 1000000 * length m.ran
 
 -- what each call leaves, also where memory was wanting: the nodes that ran are the same, every value that fitted still
--- fits, at most one object was made, and every program over which the machine was valid still is one
+-- fits, at most one object was made, values that were proper are, and every program over which the machine was valid still is
+-- one
 pub record Follows (before after : MachineState) : Type 0 where
   pub ran : after.ran ≡ before.ran
   pub fit : (v : Value) → Fits before v → Fits after v
   pub few : length after.state.objects ≤ length before.state.objects + 1
+  pub proper : IsTrue (all_in is_proper before.state) → IsTrue (all_in is_proper after.state)
   pub valid : (program : Program) → IsValid program before → IsValid program after
 
 -- what a call that takes no memory answers: the outcome. A call that may want memory answers by `Gives` of `star_meaning`.

@@ -11,7 +11,7 @@ ghost use Rattle.star_value.specs.declared.value.Value.TheOpen.{Value-F};
 ghost use Rattle.star_value.specs.declared.value.Value.TheVariants as value;
 ghost use Rattle.star_value.specs.declared.value.Value.{out-Value};
 
-use crate::{charges, integers, lists};
+use crate::{charges, integers, lists, texts};
 use chex_base::{NoMemory, ObjectId, Text};
 use heap_store::Machine;
 use star_value::{Failure, Meter, Stop, Value, Values, copy_values};
@@ -54,13 +54,12 @@ fn add_int(left: i128, right: &Value) -> Result<Value, Stop>
     }
 }
 
-#[tactic(auto, using(crate::proofs::FitLemmas::text_fits))]
 fn add_text(left: Text, right: &Value) -> Result<Value, Stop>
     ensures gives { (s : Store ℕ) → Gives (spec.add_at (Value-F.Text left) (out-Value right.now) s) result s }
     ensures fits { (m : MachineState) → IfOk result (λ v. Fits m v) }
 {
     match right {
-        Value::Text(right) => Ok(Value::Text(joined_text(left, right)?)),
+        Value::Text(right) => Ok(texts::value_of(joined_text(left, right)?)),
         _ => Err(Stop::Failure(Failure::WrongType)),
     }
 }

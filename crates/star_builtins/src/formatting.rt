@@ -11,6 +11,7 @@ ghost use Rattle.star_meaning.specs.Values.{int_in};
 ghost use Rattle.star_value.specs.declared.value.Value.{out-Value};
 
 use crate::showing::show;
+use crate::texts;
 use chex_base::{NoMemory, Text};
 use heap_store::Machine;
 use star_syntax::Program;
@@ -53,7 +54,6 @@ fn values_for(value: &Value) -> &[Value]
     }
 }
 
-#[tactic(auto, using(crate::proofs::FitLemmas::text_fits))]
 fn formatted(
     alloc: Global,
     parts: &[Part],
@@ -74,7 +74,7 @@ fn formatted(
     }
     let mut text = Text::new(alloc);
     fill(alloc, parts, values, program, machine, meter, &mut text)?;
-    Ok(Value::Text(text))
+    Ok(texts::value_of(text))
 }
 
 /// The text that a part is, if it takes no value.

@@ -8,7 +8,7 @@ ghost use Rattle.star_value.specs.declared.value.Value.TheOpen.{Value-F};
 ghost use Rattle.star_value.specs.declared.value.Value.TheVariants as value;
 ghost use Rattle.star_meaning.specs.Validity.{MachineState, all_in, is_dict, is_proper};
 
-use crate::{charges, places};
+use crate::{charges, integers, places, texts};
 use chex_base::{ObjectId, Text};
 use heap_store::Machine;
 use star_value::{Failure, Key, Meter, Range, Stop, Value};
@@ -57,7 +57,6 @@ fn item_at(alloc: Global, items: &[Value], number: i128) -> Result<Value, Stop>
 }
 
 /// A code point of a text as a text. It walks to the place.
-#[tactic(auto, using(crate::proofs::FitLemmas::text_fits))]
 fn point_at(alloc: Global, text: &Text, number: i128) -> Result<Value, Stop>
     ensures gives { (s : Store ℕ) → Gives (spec.index_at (Value-F.Text text.now) value.None (Value-F.Int number) s) result s }
     ensures fits { (m : MachineState) → IfOk result (λ v. Fits m v) }
@@ -68,7 +67,7 @@ fn point_at(alloc: Global, text: &Text, number: i128) -> Result<Value, Stop>
     let Some(point) = nth_point(text, place as usize) else {
         return Err(Stop::Failure(Failure::BadIndex));
     };
-    Ok(Value::Text(Text::from_chars(alloc, &[point])?))
+    Ok(texts::value_of(Text::from_chars(alloc, &[point])?))
 }
 
 fn nth_point(text: &Text, place: usize) -> Option<char>
@@ -83,13 +82,12 @@ fn nth_char(text: &str, place: usize) -> Option<char>
     text.chars().nth(place)
 }
 
-#[tactic(auto, using(crate::proofs::FitLemmas::int_fits))]
 fn range_item_at(range: &Range, number: i128) -> Result<Value, Stop>
     ensures gives { (s : Store ℕ) → Gives (spec.range_item_at range.now number s) result s }
     ensures fits { (m : MachineState) → IfOk result (λ v. Fits m v) }
 {
     match places::place_of(number, range.len()) {
-        Some(place) => Ok(Value::Int(places::range_item(range, place))),
+        Some(place) => Ok(integers::value_of(places::range_item(range, place))),
         None => Err(Stop::Failure(Failure::BadIndex)),
     }
 }

@@ -80,26 +80,32 @@ pub fn bits_of_one(left: i128, right: i128) -> Option<i128>
     same(left ^ right)
 }
 
+/// An integer as a value.
+pub fn value_of(number: i128) -> Value
+    ensures is { result ≡ value.Int number }
+    ensures fits { (m : MachineState) → Fits m result }
+{
+    Value::Int(number)
+}
+
 /// An integer as a result.
-#[tactic(auto, using(crate::proofs::FitLemmas::int_fits))]
 pub fn as_value(answer: Option<i128>) -> Result<Value, Failure>
     ensures gives { (s : Store ℕ) → Answers (given_or failure.IntegerTooLarge (option_map value.Int answer) s) result s }
     ensures fits { (m : MachineState) → IfOk result (λ v. Fits m v) }
 {
     match answer {
-        Some(number) => Ok(Value::Int(number)),
+        Some(number) => Ok(value_of(number)),
         None => Err(Failure::IntegerTooLarge),
     }
 }
 
 /// The same, where memory may be wanting too.
-#[tactic(auto, using(crate::proofs::FitLemmas::int_fits))]
 pub fn as_result(answer: Option<i128>) -> Result<Value, Stop>
     ensures gives { (s : Store ℕ) → Gives (given_or failure.IntegerTooLarge (option_map value.Int answer) s) result s }
     ensures fits { (m : MachineState) → IfOk result (λ v. Fits m v) }
 {
     match answer {
-        Some(number) => Ok(Value::Int(number)),
+        Some(number) => Ok(value_of(number)),
         None => Err(Stop::Failure(Failure::IntegerTooLarge)),
     }
 }

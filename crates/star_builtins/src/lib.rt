@@ -5,24 +5,25 @@
 
 mod adding;
 mod arithmetic;
-pub mod bounds;
+mod bounds;
 mod charges;
-pub mod comparing;
+mod comparing;
 mod formatting;
-pub mod indexing;
+mod indexing;
 mod integers;
 mod lists;
 mod membership;
-pub mod operators;
+mod operators;
 mod order;
 mod parts;
 mod pieces;
 mod places;
 mod plain;
 mod repeating;
-pub mod showing;
-pub mod signs;
-pub mod slicing;
+mod showing;
+mod signs;
+mod slicing;
+mod texts;
 mod weighing;
 
 pub use bounds::Bounds;
@@ -32,6 +33,3 @@ pub use operators::binary;
 pub use showing::show;
 pub use signs::unary;
 pub use slicing::slice;
-
-#[cfg(test)]
-mod tests;

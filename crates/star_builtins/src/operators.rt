@@ -1,9 +1,9 @@
 //! The operators between two operands.
-ghost use Rattle.std.specs.Prelude.{IfOk};
+ghost use Rattle.std.specs.Prelude.{IfOk, IsTrue};
 ghost use Rattle.star_builtins.specs.Reached.{Fits, Follows, GivesWeighed, HasRoom, names, store};
 ghost use Rattle.star_meaning.specs.Operators as spec;
 ghost use Rattle.star_meaning.specs.Steps.{Gives};
-ghost use Rattle.star_meaning.specs.Validity.{IsValid};
+ghost use Rattle.star_meaning.specs.Validity.{all_in, is_proper};
 ghost use Rattle.star_value.specs.declared.value.Value.{out-Value};
 
 use crate::adding::add;
@@ -33,7 +33,7 @@ pub fn binary(
 ) -> Result<Value, Stop>
     requires left { Fits machine.old left }
     requires right { Fits machine.old right }
-    requires valid { IsValid program.now machine.old }
+    requires held { IsTrue (all_in is_proper machine.old.state) }
     requires room { HasRoom machine.old }
     ensures gives { GivesWeighed (spec.binary (names program.now) op left right (store machine.old meter.old.left)) result (store machine.new meter.new.left) }
     ensures fits { IfOk result (λ v. Fits machine.new v) }

@@ -14,7 +14,7 @@ ghost use Rattle.star_value.specs.declared.value.Value.TheOpen.{Value-F};
 ghost use Rattle.star_value.specs.declared.value.Value.TheVariants as value;
 ghost use Rattle.star_value.specs.declared.value.Value.{out-Value};
 
-use crate::{charges, integers, lists};
+use crate::{charges, integers, lists, texts};
 use chex_base::{NoMemory, ObjectId, Text};
 use heap_store::Machine;
 use sqlite_items::Items;
@@ -82,7 +82,7 @@ fn times_int(left: &i128, right: &i128) -> Result<Value, Stop>
     integers::as_result(integers::product(*left, *right))
 }
 
-#[tactic(auto, using(crate::proofs::FitLemmas::text_fits, crate::proofs::WeighedLemmas::weighing))]
+#[tactic(auto, using(crate::proofs::WeighedLemmas::weighing))]
 fn times_text(alloc: Global, text: &Text, number: &i128, meter: &mut Meter) -> Result<Value, Stop>
     ensures gives { (s : State ℕ) → GivesWeighed (pure (value.Text (repeat (values.times number.now) text.now)) (record { state = s; left = meter.old.left })) result (record { state = s; left = meter.new.left }) }
     ensures fits { (m : MachineState) → IfOk result (λ v. Fits m v) }
@@ -92,7 +92,7 @@ fn times_text(alloc: Global, text: &Text, number: &i128, meter: &mut Meter) -> R
         meter.left = 0;
         return Err(Stop::Failure(Failure::StepLimit));
     }
-    Ok(Value::Text(repeated_text(alloc, text, count)?))
+    Ok(texts::value_of(repeated_text(alloc, text, count)?))
 }
 
 #[tactic(auto, using(crate::proofs::WeighedLemmas::weighing))]

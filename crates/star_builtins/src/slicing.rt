@@ -1,5 +1,5 @@
 //! A part of a list, tuple or text.
-ghost use Rattle.std.specs.Prelude.{◌≡◌, ◌+ℤ◌, ◌-ℤ◌, ◌<◌, ◌≤ℤ◌, if◌then◌else◌, int_lt, ℕ, pos, IsTrue, IfOk, length, slice_get};
+ghost use Rattle.std.specs.Prelude.{unwrap_or, ◌≡◌, ◌+ℤ◌, ◌-ℤ◌, ◌<◌, ◌≤ℤ◌, if◌then◌else◌, int_lt, ℕ, pos, IsTrue, IfOk, length, slice_get};
 ghost use Rattle.std.specs.List.{filter_map};
 ghost use Rattle.std.specs.Option.{option_copied};
 ghost use Rattle.star_builtins.specs.Reached.{Fits, Follows, HasRoom, store};
@@ -16,7 +16,7 @@ ghost use Rattle.star_value.specs.declared.value.Value.{out-Value};
 ghost use Rattle.star_value.specs.declared.value.Value.TheOpen.{Value-F};
 ghost use Rattle.star_value.specs.declared.value.Value.TheVariants as value;
 
-use crate::{Bounds, charges, integers, lists, places};
+use crate::{Bounds, charges, integers, lists, places, texts};
 use chex_base::{NoMemory, ObjectId, Text};
 use heap_store::Machine;
 use sqlite_items::Items;
@@ -59,7 +59,7 @@ pub fn slice(
 }
 
 fn step_of(step: Option<i128>) -> i128
-    ensures { result ≡ spec.or_int step (pos 1) }
+    ensures { result ≡ unwrap_or step (pos 1) }
 {
     match step {
         Some(step) => step,
@@ -89,7 +89,7 @@ fn stepped(
     slice_at(alloc, of, start, stop, step, machine, meter)
 }
 
-#[tactic(auto, using(crate::proofs::FitLemmas::held, crate::proofs::FitLemmas::text_fits))]
+#[tactic(auto, using(crate::proofs::FitLemmas::held))]
 fn slice_at(
     alloc: Global,
     of: &Value,
@@ -114,7 +114,7 @@ fn slice_at(
         }
         Value::Text(text) => {
             let taken = taken_text(alloc, text, start, stop, step)?;
-            Ok(Value::Text(taken))
+            Ok(texts::value_of(taken))
         }
         _ => Err(Stop::Failure(Failure::WrongType)),
     }

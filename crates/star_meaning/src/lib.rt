@@ -7,10 +7,10 @@
 //! a cell.
 #![tactic(auto)]
 
-pub mod flow;
-pub mod laws;
-pub mod ran;
-pub mod tables;
+mod flow;
+mod laws;
+mod ran;
+mod tables;
 
 pub use flow::Flow;
 pub use ran::{End, Ran};

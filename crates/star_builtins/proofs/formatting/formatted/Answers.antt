@@ -16,4 +16,4 @@ pub returns-clause-gives : goal.returns-clause-gives
 returns-clause-gives c =
     let count : values_taken c.args.parts.now ≡ length c.args.values.now = grind (arith, nat_tests) in
     let fit : decimals_fit c.args.parts.now c.args.values.now ≡ true = search rules in
-    formatted_went (names c.args.program.now) c.args.parts.now c.args.values.now (store c.args.machine.now c.args.meter.now.left) count fit _ _ (rw c.new-text.ensures at c.in_ok-fill.ensures)
+    rw c.value_of.ensures.is (formatted_went (names c.args.program.now) c.args.parts.now c.args.values.now (store c.args.machine.now c.args.meter.now.left) count fit _ _ (rw c.new-text.ensures at c.in_ok-fill.ensures))

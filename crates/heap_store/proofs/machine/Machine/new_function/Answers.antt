@@ -9,6 +9,6 @@ use Rattle.heap_store.proofs.machine.Machine.new_function.Goals as goal
 pub invariant_of-self-2 : goal.invariant_of-self-2
 invariant_of-self-2 c =
     let small : IsTrue (has_small_numbers (AFunction c.args.cell c.args.number c.args.defaults)) =
-        and_both (has_32_bits c.args.cell) (has_32_bits c.args.number) c.number_of-small.ensures.small (grind (arith, nat_tests, c.ranges.number.fits)) in
+    and_both (has_32_bits c.args.cell) (has_32_bits c.args.number) c.number_of-small.ensures.small (grind (arith, nat_tests, c.ranges.number.fits)) in
     rw (c.in_ok-push.ensures.items, c.function.ensures)
     (kept_new _ (AFunction c.args.cell c.args.number c.args.defaults) c.self.invariant refl small (rw (← c.self.view_is) at c.requires.fit) (rw (← c.self.view_is) at c.requires.room))

@@ -1,40 +1,49 @@
 //! Operators, index and slice.
-ghost use Rattle.std.specs.Prelude.{IfOk};
+ghost use Rattle.std.specs.Prelude.{◌≡◌, IfOk, IsTrue};
 ghost use Rattle.star_builtins.specs.Reached.{Fits, HasRoom};
-ghost use Rattle.star_meaning.specs.Validity.{IsValid, MachineState};
+ghost use Rattle.star_value.specs.declared.value.Value.TheVariants as value;
+ghost use Rattle.star_meaning.specs.Validity.{MachineState, all_in, is_proper};
 
-use crate::{Bounds, binary, index, slice, unary};
 use chex_base::{NoMemory, NodeId, Text};
 use heap_store::Machine;
 use sqlite_items::Items;
-use star_syntax::{BinaryOp, Cell, Cells, Module, Names, Program, Statements, UnaryOp};
+use star_builtins::{Bounds, binary, index, slice, unary};
+use star_syntax::{BinaryOp, Cells, Program, UnaryOp};
 use star_value::{Meter, Stop, Value};
 use std::alloc::Global;
 use std::process::Abort;
 use std::test::Fail;
 
-/// A program of one cell without a statement.
-fn program(alloc: Global) -> Result<Program, NoMemory> {
-    let module = Module {
-        statements: Statements::new(alloc, Items::new(alloc))?,
-    };
-    let names = Names::from_vec(Vec::new(alloc));
-    let cell = Cell::new(Text::new(alloc), module, names);
-    Ok(Program {
-        cells: Cells::from_vec(vec![in alloc; cell]?),
-    })
+/// A program without a cell.
+fn program(alloc: Global) -> Program {
+    Program {
+        cells: Cells::from_vec(Vec::new(alloc)),
+    }
 }
 
-/// The machine in which the first cell of a program runs.
-fn entered(rt: &impl Abort, alloc: Global, program: &Program) -> Result<Machine, NoMemory>
-    ensures valid { IfOk result (λ m. IsValid program.now m) }
+/// A machine in which the cell of node 1 runs.
+fn entered(alloc: Global) -> Result<Machine, NoMemory>
+    ensures held { IfOk result (λ m. IsTrue (all_in is_proper m.state)) }
     ensures room { IfOk result (λ m. HasRoom m) }
 {
     let mut machine = Machine::new(alloc);
     machine.enter(NodeId(1))?;
-    assert!(rt; program.cell(NodeId(1)).is_some());
-    assert!(rt; machine.ran().len() == 1);
     Ok(machine)
+}
+
+fn int_value(number: i128) -> Value
+    ensures is { result ≡ value.Int number }
+    ensures fits { (m : MachineState) → Fits m result }
+{
+    Value::Int(number)
+}
+
+fn text_value(alloc: Global, text: &str) -> Result<Value, NoMemory>
+    ensures { (m : MachineState) → IfOk result (λ v. Fits m v) }
+{
+    let text = Text::from_str(alloc, text)?;
+    let _characters = text.as_str();
+    Ok(Value::Text(text))
 }
 
 fn shows(
@@ -59,14 +68,13 @@ fn binary_row(
     requires left { (m : MachineState) → Fits m left }
     requires right { (m : MachineState) → Fits m right }
 {
-    let program = program(alloc)?;
-    let mut machine = entered(rt, alloc, &program)?;
+    let program = program(alloc);
+    let mut machine = entered(alloc)?;
     let mut meter = Meter { left: 100 };
     let answer = binary(alloc, op, left, right, &program, &mut machine, &mut meter);
     shows(rt, alloc, &answer, expected)
 }
 
-#[tactic(auto, using(crate::proofs::FitLemmas::int_fits))]
 fn ints_row(
     rt: &impl Abort,
     alloc: Global,
@@ -75,10 +83,9 @@ fn ints_row(
     right: i128,
     expected: &str,
 ) -> Result<(), NoMemory> {
-    binary_row(rt, alloc, Value::Int(left), op, Value::Int(right), expected)
+    binary_row(rt, alloc, int_value(left), op, int_value(right), expected)
 }
 
-#[tactic(auto, using(crate::proofs::FitLemmas::int_fits, crate::proofs::FitLemmas::text_fits))]
 fn text_row(
     rt: &impl Abort,
     alloc: Global,
@@ -87,11 +94,10 @@ fn text_row(
     right: i128,
     expected: &str,
 ) -> Result<(), NoMemory> {
-    let left = Value::Text(Text::from_str(alloc, left)?);
-    binary_row(rt, alloc, left, op, Value::Int(right), expected)
+    let left = text_value(alloc, left)?;
+    binary_row(rt, alloc, left, op, int_value(right), expected)
 }
 
-#[tactic(auto, using(crate::proofs::FitLemmas::text_fits))]
 fn texts_row(
     rt: &impl Abort,
     alloc: Global,
@@ -100,8 +106,8 @@ fn texts_row(
     right: &str,
     expected: &str,
 ) -> Result<(), NoMemory> {
-    let left = Value::Text(Text::from_str(alloc, left)?);
-    let right = Value::Text(Text::from_str(alloc, right)?);
+    let left = text_value(alloc, left)?;
+    let right = text_value(alloc, right)?;
     binary_row(rt, alloc, left, op, right, expected)
 }
 
@@ -202,7 +208,6 @@ fn signs_are_taken(rt: HostRuntime) -> Result<(), Fail> {
     Ok(())
 }
 
-#[tactic(auto, using(crate::proofs::FitLemmas::text_fits))]
 fn index_row(
     rt: &impl Abort,
     alloc: Global,
@@ -210,9 +215,8 @@ fn index_row(
     at: i128,
     expected: &str,
 ) -> Result<(), NoMemory> {
-    let program = program(alloc)?;
-    let machine = entered(rt, alloc, &program)?;
-    let of = Value::Text(Text::from_str(alloc, of)?);
+    let machine = entered(alloc)?;
+    let of = text_value(alloc, of)?;
     let mut meter = Meter { left: 100 };
     let answer = index(alloc, &of, &Value::Int(at), &machine, &mut meter);
     shows(rt, alloc, &answer, expected)
@@ -235,7 +239,6 @@ fn int(number: Option<i128>) -> Option<Value> {
     }
 }
 
-#[tactic(auto, using(crate::proofs::FitLemmas::text_fits))]
 fn slice_row(
     rt: &impl Abort,
     alloc: Global,
@@ -244,9 +247,8 @@ fn slice_row(
     step: Option<i128>,
     expected: &str,
 ) -> Result<(), NoMemory> {
-    let program = program(alloc)?;
-    let mut machine = entered(rt, alloc, &program)?;
-    let of = Value::Text(Text::from_str(alloc, "abcde")?);
+    let mut machine = entered(alloc)?;
+    let of = text_value(alloc, "abcde")?;
     let bounds = Bounds {
         start: int(start),
         stop: int(stop),

@@ -2,10 +2,10 @@
 ghost use Rattle.std.specs.Prelude.{◌<◌, ◌*◌, IsTrue, length, slice_get};
 ghost use Rattle.star_meaning.specs.Validity.{fits, is_list};
 
-use crate::{compare, show};
 use chex_base::{NoMemory, NodeId, ObjectId, Text};
 use heap_store::{Kind, Machine};
 use sqlite_items::Items;
+use star_builtins::{compare, show};
 use star_syntax::{Cells, CompareOp, Program};
 use star_value::{Builtin, Meter, Range, Stop, Value};
 use std::alloc::Global;

@@ -2,8 +2,8 @@
 ghost use Rattle.std.specs.Prelude.{◌<◌, ◌*◌, IsTrue, length, slice_get};
 ghost use Rattle.star_meaning.specs.Validity.{is_list, is_dict, is_function};
 
-use crate::{Kind, Machine};
 use chex_base::{NoMemory, NodeId, ObjectId, Text};
+use heap_store::{Kind, Machine};
 use sqlite_items::Items;
 use star_value::{Key, Value};
 use std::alloc::Global;
@@ -308,7 +308,7 @@ fn function(
     machine.new_function(NodeId(1), 2, defaults)
 }
 
-#[tactic(auto, using(crate::proofs::Fitting::fits_list), unfolding(crate::specs::Objects::defaults))]
+#[tactic(auto, using(crate::proofs::Fitting::fits_list), unfolding(heap_store::specs::Objects::defaults))]
 fn set_default(rt: &impl Abort, machine: &mut Machine, id: ObjectId, later: ObjectId) {
     expect_function(rt, machine, id);
     assert!(rt; machine.function(id).2.len() == 1);

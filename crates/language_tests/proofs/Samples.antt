@@ -6,11 +6,11 @@ use Rattle.star_value.specs.declared.range.Range.{Range}
 use Rattle.star_value.specs.declared.value.Value.{fold-roll-Value}
 use Rattle.star_value.specs.declared.value.Value.TheVariants as value
 use Rattle.star_meaning.specs.State.{Object}
-use Rattle.star_meaning.specs.Validity.{is_list, fits, fits_step, is_proper, steps_fit}
+use Rattle.star_meaning.specs.Validity.{is_list, fits, fits_step, is_proper, proper_step}
 use Rattle.star_meaning.proofs.Equations.{depth_list}
 use Rattle.heap_store.specs.Objects.{kind_of}
 use Rattle.heap_store.specs.declared.kind.Kind.TheVariants as kind
-use Rattle.heap_store.proofs.Fitting as held
+use Rattle.language_tests.proofs.Fitting as held
 
 pub kind_list : (o : Option (Object ℕ)) → option_map kind_of o ≡ Some kind.List → IsTrue (is_list o)
 kind_list = held.kind_list
@@ -41,7 +41,7 @@ pub ruleset plain = (fits_none, fits_int, fits_bool, fits_text, fits_range, fits
 
 pub proper_list : (id : ℕ) → IsTrue (is_proper (value.List id))
 unfolding is_proper
-proper_list id = rw (depth_list id, ← value.rolls-List id, fold-roll-Value Bool steps_fit) refl
+proper_list id = rw (depth_list id, ← value.rolls-List id, fold-roll-Value Bool proper_step) refl
 
 pub fits_list : (os : List (Object ℕ)) (id : ℕ) → IsTrue (is_list (slice_get os id)) → IsTrue (fits os (value.List id))
 fits_list = held.fits_list

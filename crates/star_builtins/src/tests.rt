@@ -1,4 +1,0 @@
-//! Answers that were worked out by hand.
-
-mod operators;
-mod showing;
