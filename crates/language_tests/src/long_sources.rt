@@ -9,11 +9,13 @@ use star_parser::parse;
 use star_resolver::resolve;
 use star_syntax::spell;
 use std::alloc::Global;
+use std::process::Abort;
 use std::test::Fail;
 
-/// What stands before the piece that is repeated, the piece, and what stands after it.
-const CHAINS: [(&str, &str, &str); 36] = [
-    // Operators.
+/// A chain: what stands before the piece that is repeated, the piece, and what stands after it.
+type Chain = (&'static str, &'static str, &'static str);
+
+const OPERATORS: [Chain; 13] = [
     ("x = a", " or a", "\n"),
     ("x = a", " and a", "\n"),
     ("x = a", " | a", "\n"),
@@ -27,15 +29,18 @@ const CHAINS: [(&str, &str, &str); 36] = [
     ("x = ", "-", "1\n"),
     ("x = ", "~", "1\n"),
     ("x = ", "not ", "a\n"),
-    // Conditionals, whose parts stand before and after each `if`.
+];
+
+const CONDITIONALS_AND_SUFFIXES: [Chain; 6] = [
     ("x = ", "()if()else", "()\n"),
     ("x = ", "a if b else ", "c\n"),
-    // Suffixes.
     ("a", "()", "\n"),
     ("a", "[0]", "\n"),
     ("a", "[:]", "\n"),
     ("a", ".b()", "\n"),
-    // Lists.
+];
+
+const LISTS: [Chain; 11] = [
     ("x = a", ",a", "\n"),
     ("a", ",a", " = 1\n"),
     ("x = [", "1,", "]\n"),
@@ -47,7 +52,9 @@ const CHAINS: [(&str, &str, &str); 36] = [
     ("x = [a", " for a in b", "]\n"),
     ("x = [a for a in b", " if a", "]\n"),
     ("for a", ",a", " in b: pass\n"),
-    // Statements.
+];
+
+const STATEMENTS: [Chain; 6] = [
     ("", "pass\n", ""),
     ("pass", ";pass", "\n"),
     ("if a: pass\n", "elif a: pass\n", "else: pass\n"),
@@ -128,10 +135,9 @@ fn read(alloc: Global, source: &str) -> Result<&'static str, Fail> {
     }
 }
 
-#[test]
-fn chains_are_read_to_the_end(rt: HostRuntime) -> Result<(), Fail> {
-    let alloc = rt.alloc();
-    for (before, piece, after) in &CHAINS {
+/// Each chain is read and spelled back.
+fn check_chains(rt: &impl Abort, alloc: Global, chains: &[Chain]) -> Result<(), Fail> {
+    for (before, piece, after) in chains {
         let source = chain(alloc, before, piece, after)?;
         assert_eq!(rt; read(alloc, source.as_str())?, "spelled back", "{}", *piece);
     }
@@ -139,7 +145,27 @@ fn chains_are_read_to_the_end(rt: HostRuntime) -> Result<(), Fail> {
 }
 
 #[test]
-fn nests_are_read_to_the_end(rt: HostRuntime) -> Result<(), Fail> {
+fn long_operators(rt: HostRuntime) -> Result<(), Fail> {
+    check_chains(&rt, rt.alloc(), &OPERATORS)
+}
+
+#[test]
+fn long_conditionals_and_suffixes(rt: HostRuntime) -> Result<(), Fail> {
+    check_chains(&rt, rt.alloc(), &CONDITIONALS_AND_SUFFIXES)
+}
+
+#[test]
+fn long_lists(rt: HostRuntime) -> Result<(), Fail> {
+    check_chains(&rt, rt.alloc(), &LISTS)
+}
+
+#[test]
+fn long_cells(rt: HostRuntime) -> Result<(), Fail> {
+    check_chains(&rt, rt.alloc(), &STATEMENTS)
+}
+
+#[test]
+fn deep_nests(rt: HostRuntime) -> Result<(), Fail> {
     let alloc = rt.alloc();
     for (open, inner, close) in &NESTS {
         let source = nest(alloc, open, inner, close)?;
@@ -147,7 +173,12 @@ fn nests_are_read_to_the_end(rt: HostRuntime) -> Result<(), Fail> {
     }
     for header in &BLOCKS {
         let source = blocks(alloc, header)?;
-        assert_eq!(rt; read(alloc, source.as_str())?, "spelled back", "{}", *header);
+        assert_eq!(rt;
+            read(alloc, source.as_str())?,
+            "spelled back",
+            "{}",
+            *header
+        );
     }
     Ok(())
 }

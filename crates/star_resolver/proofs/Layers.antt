@@ -17,7 +17,7 @@ use Rattle.star_syntax.specs.declared.expression.Expr.{Expr, roll-Expr, map-Expr
 use Rattle.star_syntax.specs.declared.expression.Expr.TheOpen.{Expr-F}
 use Rattle.star_syntax.specs.declared.expression.Expr.TheVariants as e
 use Rattle.star_syntax.specs.Placement as rules
-use Rattle.star_syntax.specs.Placement.{Breach, InputNotLiteral, Use, Literal, Other, Seen, is_input, seen, layer_seen, suffix_uses, clause_uses, arguments_uses, optional_uses, step_uses, all_uses, head_uses, expr_sights}
+use Rattle.star_syntax.specs.Placement.{Breach, InputNotLiteral, Use, Literal, Other, Seen, is_input, seen, layer_seen, suffix_uses, clause_uses, arguments_uses, optional_uses, step_uses, all_uses, head_uses, expr_findings}
 use Rattle.star_resolver.specs.Outcomes.{Names, Work, and_then, each}
 use Rattle.star_resolver.specs.Scans.{scan, names_input, literal, name_read, scan_head, scan_optional, scan_step, scan_named, scan_suffix, scan_clause, scan_pair, scan_link, scan_arm}
 use Rattle.star_resolver.proofs.Walks.{same_then, each-map, run, run-append, run-three, run-flat_map}
@@ -206,13 +206,13 @@ seen_in : Expr-F Expr → Expr-F Seen
 seen_in = map-Expr Expr Seen seen
 
 all_again : (line : ℕ) (xs : List Expr) (n : Names) → run line (all_uses (map seen xs)) n ≡ each (scan line) xs n
-unfolding scan expr_sights
+unfolding scan expr_findings
 all_again line xs n = run-flat_map line (λ x. x.uses) (map seen xs) n ∙ each-map (λ x. run line x.uses) seen xs n
 
 named_again : (line : ℕ) (head : Expr) (positional : List Expr) (comma : Bool) (xs : List (Named Expr)) (n : Names) →
     run line (flat_map (λ named. named.value.uses) (named_in (suffixes_in (seen_in (Expr-F.Primary head (Call (record { positional = positional; named = xs; comma = comma }) ∷ [])))))) n
     ≡ each (scan_named line) xs n
-unfolding suffixes_in named_in seen_in scan expr_sights
+unfolding suffixes_in named_in seen_in scan expr_findings
 named_again line head positional comma [] n = refl
 named_again line head positional comma (x ∷ xs) n = run-append line (seen x.value).uses _ n ∙ same_then _ _ _ _ refl (named_again line head positional comma xs)
 
@@ -227,7 +227,7 @@ slice_again : (line : ℕ) (a b c : List Use) (n : Names) (f g h : Work) → ((m
 slice_again line a b c n f g h x y z = run-three line a b c n ∙ same_then _ _ _ _ (x n) (λ m. same_then _ _ _ _ (y m) z)
 
 one_again : (line : ℕ) (x : Expr) (n : Names) → run line (seen x).uses n ≡ scan line x n
-unfolding scan expr_sights
+unfolding scan expr_findings
 one_again line x n = refl
 
 -- the first suffix, and then the others
@@ -338,7 +338,7 @@ first_again head (Method name given ∷ xs) = refl
 
 head_again : (line : ℕ) (head : Expr) (o : Option (List ℕ)) (n : Names) →
     run line (head_uses (seen head) o) n ≡ scan_head line head (if names_input head then o else None) n
-unfolding names_input scan expr_sights
+unfolding names_input scan expr_findings
 head_again line head None n = by (seen head).names_input
   where
     by : (b : Bool) → scan line head n ≡ scan_head line head (if b then None else None) n
@@ -353,7 +353,7 @@ head_again line head (Some text) n = by (seen head).names_input
 -- ---- the walk over each form
 
 from_layer : (line : ℕ) (d : Expr-F Expr) (n : Names) → scan line (roll-Expr d) n ≡ run line (layer_seen (seen_in d)).uses n
-unfolding scan expr_sights seen_in
+unfolding scan expr_findings seen_in
 from_layer line d n = ap (λ s. run line s.uses n) (at_layer d)
 
 name_again : (line : ℕ) (name : List ℕ) (n : Names) → run line (rules.name_uses name) n ≡ (if is_input name then Err (InputNotLiteral, line) else Ok n)

@@ -2,7 +2,7 @@
 use Rattle.std.proofs.Common.{◌≡◌, ◌∙◌, ℕ, List, [], ◌∷◌, ◌++◌, map, Ok, Err, refl, ap}
 use Rattle.std.specs.FinSet as set
 use Rattle.std.specs.List.{flat_map}
-use Rattle.star_syntax.specs.Placement.{Sight, Reads, Breaks, Use, Literal, Other, use_sight}
+use Rattle.star_syntax.specs.Placement.{Finding, Reads, Breaks, Use, Literal, Other, use_finding}
 use Rattle.star_resolver.specs.Outcomes.{Names, Outcome, Work, and_then, each, walk}
 
 -- equal outcomes, and then equal works
@@ -13,12 +13,12 @@ same_then o o' f g is are = ap (λ x. and_then x f) is ∙ by o'
     by (Ok names) = are names
     by (Err breach) = refl
 
-pub walk-append : (a b : List Sight) (n : Names) → walk (a ++ b) n ≡ and_then (walk a n) (walk b)
+pub walk-append : (a b : List Finding) (n : Names) → walk (a ++ b) n ≡ and_then (walk a n) (walk b)
 walk-append [] b n = refl
 walk-append (Reads name ∷ a) b n = walk-append a b (set.insert n name)
 walk-append (Breaks breach line ∷ a) b n = refl
 
-pub walk-flat_map : {X : Type 0} (f : X → List Sight) (xs : List X) (n : Names) → walk (flat_map f xs) n ≡ each (λ x. walk (f x)) xs n
+pub walk-flat_map : {X : Type 0} (f : X → List Finding) (xs : List X) (n : Names) → walk (flat_map f xs) n ≡ each (λ x. walk (f x)) xs n
 walk-flat_map f [] n = refl
 walk-flat_map f (x ∷ xs) n = walk-append (f x) (flat_map f xs) n ∙ same_then _ _ _ _ refl (walk-flat_map f xs)
 
@@ -33,7 +33,7 @@ each-same f g are (x ∷ xs) n = same_then _ _ _ _ (are x n) (each-same f g are 
 -- ---- the uses of `input` in expressions of the statement of a line
 
 abbrev pub run : ℕ → List Use → Work
-run line uses = walk (map (use_sight line) uses)
+run line uses = walk (map (use_finding line) uses)
 
 pub run-append : (line : ℕ) (a b : List Use) (n : Names) → run line (a ++ b) n ≡ and_then (run line a n) (run line b)
 run-append line [] b n = refl

@@ -3,7 +3,7 @@ use Rattle.std.specs.Prelude.{◌≡◌, ℕ, List, [], ◌∷◌, Result, Ok, E
 use Rattle.std.specs.FinSet as set
 use Rattle.chex_base.specs.TextOrder.{text_cmp}
 use Rattle.star_syntax.specs.Placement as rules
-use Rattle.star_syntax.specs.Placement.{Breach, Sight, Reads, Breaks}
+use Rattle.star_syntax.specs.Placement.{Breach, Finding, Reads, Breaks}
 use Rattle.star_resolver.specs.declared.error.ResolveKind.{ResolveKind}
 use Rattle.star_resolver.specs.declared.error.ResolveKind.TheVariants as kind
 use Rattle.star_resolver.specs.declared.error.ResolveFault.{ResolveFault}
@@ -31,7 +31,7 @@ each work [] names = Ok names
 each work (x ∷ xs) names = and_then (work x names) (each work xs)
 
 -- the names that are read are added to those of before, up to the first breach
-abbrev pub walk : List Sight → Work
+abbrev pub walk : List Finding → Work
 walk [] names = Ok names
 walk (Reads name ∷ more) names = walk more (set.insert names name)
 walk (Breaks breach line ∷ more) names = Err (breach, line)

@@ -19,13 +19,13 @@ use Rattle.star_syntax.specs.declared.statement.Block.{Block}
 use Rattle.star_syntax.specs.declared.statement.Block.TheVariants.{Inline, Indented}
 use Rattle.star_syntax.specs.declared.statement.Branch.{Branch}
 use Rattle.star_syntax.specs.declared.statement.Statement.{Statement}
-use Rattle.star_syntax.specs.Placement.{Place, Parameter, Breach, MisplacedReturn, MisplacedBreak, InputNotLiteral, RepeatedParameter, is_input, first_literal, seen, expr_sights, statement_sights}
+use Rattle.star_syntax.specs.Placement.{Place, Parameter, Breach, MisplacedReturn, MisplacedBreak, InputNotLiteral, RepeatedParameter, is_input, first_literal, seen, expr_findings, statement_findings}
 use Rattle.star_resolver.specs.Outcomes.{Names, Outcome, Work, and_then, each, walk}
 
 -- ---- expressions of the statement of a line
 
 unfoldable pub scan : ℕ → Expr → Work
-scan line x = walk (expr_sights line x)
+scan line x = walk (expr_findings line x)
 
 -- whether the tree is the name `input` alone
 unfoldable pub names_input : Expr → Bool
@@ -118,7 +118,7 @@ scan_header line name all names = if is_input name then Err (InputNotLiteral, li
 -- ---- statements
 
 unfoldable pub scan_statement : Place → Statement → Work
-scan_statement place s = walk (statement_sights s place)
+scan_statement place s = walk (statement_findings s place)
 
 abbrev pub scan_block : Place → Block Statement → Work
 scan_block place (Inline line) names = scan_line place line names

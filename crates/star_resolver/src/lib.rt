@@ -4,13 +4,13 @@
 //! order. The rules stand in docs/LANGUAGE.md.
 #![tactic(auto)]
 
-pub mod error;
-pub mod expression;
-pub mod parameters;
-pub mod place;
-pub mod placement;
-pub mod statement;
-pub mod texts;
+mod error;
+mod expression;
+mod parameters;
+mod place;
+mod placement;
+mod statement;
+mod texts;
 
 pub use error::{ResolveFault, ResolveKind};
 pub use placement::resolve;

@@ -130,9 +130,9 @@ pub data Breach : Type 0 where
   RepeatedParameter : Breach
 
 -- an input that is read by this name, or a breach and its line
-pub data Sight : Type 0 where
-  Reads : List ℕ → Sight
-  Breaks : Breach → ℕ → Sight
+pub data Finding : Type 0 where
+  Reads : List ℕ → Finding
+  Breaks : Breach → ℕ → Finding
 
 -- where a statement stands
 pub record Place : Type 0 where
@@ -157,42 +157,42 @@ abbrev pub in_body : Place
 in_body = record { is_direct = false; in_function = true; in_loop = false }
 
 -- the breach, unless it is allowed here
-abbrev pub unless : Bool → Breach → ℕ → List Sight
+abbrev pub unless : Bool → Breach → ℕ → List Finding
 unless allowed breach line = if allowed then [] else Breaks breach line ∷ []
 
 -- the breach where it is one
-abbrev pub where_broken : Bool → Breach → ℕ → List Sight
+abbrev pub where_broken : Bool → Breach → ℕ → List Finding
 where_broken broken breach line = if broken then Breaks breach line ∷ [] else []
 
-abbrev pub use_sight : ℕ → Use → Sight
-use_sight line (Literal name) = Reads name
-use_sight line Other = Breaks InputNotLiteral line
+abbrev pub use_finding : ℕ → Use → Finding
+use_finding line (Literal name) = Reads name
+use_finding line Other = Breaks InputNotLiteral line
 
 -- an expression of the statement of this line
-unfoldable pub expr_sights : ℕ → Expr → List Sight
-expr_sights line x = map (use_sight line) (seen x).uses
+unfoldable pub expr_findings : ℕ → Expr → List Finding
+expr_findings line x = map (use_finding line) (seen x).uses
 
-abbrev pub all_sights : ℕ → List Expr → List Sight
-all_sights line trees = flat_map (expr_sights line) trees
+abbrev pub all_findings : ℕ → List Expr → List Finding
+all_findings line trees = flat_map (expr_findings line) trees
 
 -- a name that is no expression
-abbrev pub name_sights : ℕ → List ℕ → List Sight
-name_sights line name = where_broken (is_input name) InputNotLiteral line
+abbrev pub name_findings : ℕ → List ℕ → List Finding
+name_findings line name = where_broken (is_input name) InputNotLiteral line
 
-abbrev pub kind_sights : Place → ℕ → SmallKind → List Sight
-kind_sights place line (Return tests) = unless place.in_function MisplacedReturn line ++ all_sights line tests
-kind_sights place line Break = unless place.in_loop MisplacedBreak line
-kind_sights place line Continue = unless place.in_loop MisplacedBreak line
-kind_sights place line Pass = []
-kind_sights place line (Assign targets tests) = all_sights line targets ++ all_sights line tests
-kind_sights place line (Augmented target _ tests) = expr_sights line target ++ all_sights line tests
-kind_sights place line (Tests tests) = all_sights line tests
+abbrev pub kind_findings : Place → ℕ → SmallKind → List Finding
+kind_findings place line (Return tests) = unless place.in_function MisplacedReturn line ++ all_findings line tests
+kind_findings place line Break = unless place.in_loop MisplacedBreak line
+kind_findings place line Continue = unless place.in_loop MisplacedBreak line
+kind_findings place line Pass = []
+kind_findings place line (Assign targets tests) = all_findings line targets ++ all_findings line tests
+kind_findings place line (Augmented target _ tests) = expr_findings line target ++ all_findings line tests
+kind_findings place line (Tests tests) = all_findings line tests
 
-abbrev pub small_sights : Place → Small → List Sight
-small_sights place small = kind_sights place small.line small.kind
+abbrev pub small_findings : Place → Small → List Finding
+small_findings place small = kind_findings place small.line small.kind
 
-unfoldable pub line_sights : Place → Line → List Sight
-line_sights place line = flat_map (small_sights place) line.smalls
+unfoldable pub line_findings : Place → Line → List Finding
+line_findings place line = flat_map (small_findings place) line.smalls
 
 -- a parameter: its name, and its default where it has one
 abbrev pub Parameter : Type 0
@@ -207,65 +207,65 @@ default_parameter named = (named.name, Some named.value)
 abbrev pub parameters : List (List ℕ) → List (Named Expr) → List Parameter
 parameters required defaults = map required_parameter required ++ map default_parameter defaults
 
-abbrev pub default_sights : ℕ → Option Expr → List Sight
-default_sights line None = []
-default_sights line (Some x) = expr_sights line x
+abbrev pub default_findings : ℕ → Option Expr → List Finding
+default_findings line None = []
+default_findings line (Some x) = expr_findings line x
 
 -- the parameters from one on, with the names of those before it
-abbrev pub parameter_sights : ℕ → set.FinSet text_cmp → List Parameter → List Sight
-parameter_sights line before [] = []
-parameter_sights line before (p ∷ more) =
-    name_sights line p.0 ++ (where_broken (set.contains before p.0) RepeatedParameter line
-    ++ (default_sights line p.1 ++ parameter_sights line (set.insert before p.0) more))
+abbrev pub parameter_findings : ℕ → set.FinSet text_cmp → List Parameter → List Finding
+parameter_findings line before [] = []
+parameter_findings line before (p ∷ more) =
+    name_findings line p.0 ++ (where_broken (set.contains before p.0) RepeatedParameter line
+    ++ (default_findings line p.1 ++ parameter_findings line (set.insert before p.0) more))
 
 -- ---- statements, over what those in their blocks show at a place
 
 abbrev pub Shows : Type 0
-Shows = Place → List Sight
+Shows = Place → List Finding
 
-abbrev pub block_sights : Block Shows → Shows
-block_sights (Inline line) place = line_sights place line
-block_sights (Indented statements) place = flat_map (λ s. s place) statements
+abbrev pub block_findings : Block Shows → Shows
+block_findings (Inline line) place = line_findings place line
+block_findings (Indented statements) place = flat_map (λ s. s place) statements
 
-abbrev pub branch_sights : ℕ → Place → Branch Shows → List Sight
-branch_sights line place branch = expr_sights line branch.condition ++ block_sights branch.body place
+abbrev pub branch_findings : ℕ → Place → Branch Shows → List Finding
+branch_findings line place branch = expr_findings line branch.condition ++ block_findings branch.body place
 
-abbrev pub else_sights : Option (Block Shows) → Shows
-else_sights None place = []
-else_sights (Some body) place = block_sights body place
+abbrev pub else_findings : Option (Block Shows) → Shows
+else_findings None place = []
+else_findings (Some body) place = block_findings body place
 
 -- the header of a `def`
-abbrev pub header_sights : ℕ → List ℕ → List Parameter → List Sight
-header_sights line name all = name_sights line name ++ parameter_sights line set.empty all
+abbrev pub header_findings : ℕ → List ℕ → List Parameter → List Finding
+header_findings line name all = name_findings line name ++ parameter_findings line set.empty all
 
-abbrev pub layer_sights : Statement-F Shows → Shows
-layer_sights (Statement-F.Line line) place = line_sights place line
-layer_sights (Statement-F.If at first more other) place =
-    branch_sights at (in_branch place) first ++ (flat_map (branch_sights at (in_branch place)) more ++ else_sights other (in_branch place))
-layer_sights (Statement-F.For at targets over body) place =
-    all_sights at targets ++ (all_sights at over ++ block_sights body (in_turn place))
-layer_sights (Statement-F.Def at def) place =
-    unless place.is_direct NestedDef at ++ (header_sights at def.name (parameters def.required def.defaults) ++ block_sights def.body in_body)
+abbrev pub layer_findings : Statement-F Shows → Shows
+layer_findings (Statement-F.Line line) place = line_findings place line
+layer_findings (Statement-F.If at first more other) place =
+    branch_findings at (in_branch place) first ++ (flat_map (branch_findings at (in_branch place)) more ++ else_findings other (in_branch place))
+layer_findings (Statement-F.For at targets over body) place =
+    all_findings at targets ++ (all_findings at over ++ block_findings body (in_turn place))
+layer_findings (Statement-F.Def at def) place =
+    unless place.is_direct NestedDef at ++ (header_findings at def.name (parameters def.required def.defaults) ++ block_findings def.body in_body)
 
-unfoldable pub statement_sights : Statement → Place → List Sight
-statement_sights = fold-Statement Shows layer_sights
+unfoldable pub statement_findings : Statement → Place → List Finding
+statement_findings = fold-Statement Shows layer_findings
 
 -- ---- cells
 
-unfoldable pub sights : Module → List Sight
-sights cell = flat_map (λ s. statement_sights s in_cell) cell.statements
+unfoldable pub findings : Module → List Finding
+findings cell = flat_map (λ s. statement_findings s in_cell) cell.statements
 
-abbrev pub breach_of : Sight → Option (Breach × ℕ)
+abbrev pub breach_of : Finding → Option (Breach × ℕ)
 breach_of (Reads name) = None
 breach_of (Breaks breach line) = Some (breach, line)
 
-abbrev pub name_of : Sight → Option (List ℕ)
+abbrev pub name_of : Finding → Option (List ℕ)
 name_of (Reads name) = Some name
 name_of (Breaks breach line) = None
 
 -- all breaches in text order, each with the line of the innermost statement in which it stands
 unfoldable pub breaches : Module → List (Breach × ℕ)
-breaches cell = filter_map breach_of (sights cell)
+breaches cell = filter_map breach_of (findings cell)
 
 -- no rule is broken
 abbrev pub IsPlaced : Module → Type 0
@@ -273,7 +273,7 @@ IsPlaced cell = breaches cell ≡ []
 
 -- the names in the `input` literals, in text order
 unfoldable pub names_read : Module → List (List ℕ)
-names_read cell = filter_map name_of (sights cell)
+names_read cell = filter_map name_of (findings cell)
 
 -- the names in the `input` literals, in rising byte order and each once
 pub record AreInputNames (cell : Module) (names : List (List ℕ)) : Type 0 where

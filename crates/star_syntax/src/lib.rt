@@ -4,14 +4,14 @@
 //! statements. The crates that read and run cells all speak of these types.
 #![tactic(auto)]
 
-pub mod cell;
-pub mod expression;
-pub mod names;
-pub mod operator;
-pub mod spelling;
-pub mod statement;
-pub mod token;
-pub mod tokens;
+mod cell;
+mod expression;
+mod names;
+mod operator;
+mod spelling;
+mod statement;
+mod token;
+mod tokens;
 
 pub use cell::{Cell, Cells, Program};
 pub use expression::{

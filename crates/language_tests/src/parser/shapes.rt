@@ -18,7 +18,7 @@ fn shape(alloc: Global, row: &str) -> Result<Text, Fail> {
 }
 
 /// Expressions that stand alone on line 1, with their nodes.
-const EXPRESSIONS: [(&str, &str); 29] = [
+const EXPRESSIONS: [(&str, &str); 31] = [
     // Operators of one level are links of one chain; those that bind tighter are nodes within.
     ("a + b - c", " (Sum a Add b Sub c)"),
     (
