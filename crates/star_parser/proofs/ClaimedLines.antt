@@ -133,7 +133,7 @@ line_lines line =
     joined (smalls_claims line.smalls) (plain (if_written line.semicolon m.Semicolon ++ t.Newline ∷ []))
     ∙ ap (λ l. l ++ claimed_lines (plain (if_written line.semicolon m.Semicolon ++ t.Newline ∷ []))) (smalls_lines line.smalls)
     ∙ ap (λ l. lines_of_smalls line.smalls ++ l)
-        (none_claimed (if_written line.semicolon m.Semicolon ++ t.Newline ∷ []) ∙ map-append (λ _. None) (if_written line.semicolon m.Semicolon) (t.Newline ∷ []))
+    (none_claimed (if_written line.semicolon m.Semicolon ++ t.Newline ∷ []) ∙ map-append (λ _. None) (if_written line.semicolon m.Semicolon) (t.Newline ∷ []))
 
 Claimed : Statement → Type 0
 Claimed x = claimed_lines (statement_claims x) ≡ lines_of_statement x
