@@ -1,12 +1,16 @@
 -- What holds of steps by themselves is that they do the same as themselves, under the names that cells have.
-use Rattle.std.proofs.Common.{◌≡◌, ℕ, List, [], ◌∷◌, map, refl, sym, ap, ◌∙◌}
+use Rattle.std.proofs.Common.{◌≡◌, ℕ, List, [], ◌∷◌, map, refl, sym, ap, ◌∙◌, true, IsTrue}
+use Rattle.std.specs.List.{list_all}
 use Rattle.star_value.specs.declared.value.Value.{Value}
-use Rattle.star_meaning.specs.State.{Object, AList, ADict, AFunction}
+use Rattle.star_meaning.specs.State.{Object, AList, ADict, AFunction, State}
 use Rattle.star_meaning.specs.Steps.{Outcome, Went, Failed, Steps, Store, Action, ◌>>=◌}
 use Rattle.star_meaning.specs.World.{Block, World, Work, acting, in_block, in_function, located, locking, operation, turns}
 use Rattle.star_meaning.specs.Validity.{renamed}
-use Rattle.star_meaning.specs.Renaming.{Names, store_as, world_as, outcome_as, Same, SameSteps}
+use Rattle.star_meaning.specs.Renaming.{Names, has_good, state_as, store_as, under, world_as, outcome_as, Same, SameSetting, SameSteps}
 use Rattle.star_meaning.specs.Growing.{Later, Leads, reached}
+use Rattle.star_meaning.specs.Expressions.{Setting}
+use Rattle.star_meaning.specs.Reading.{body_sights}
+use Rattle.star_meaning.proofs.ReadingLemmas.{all_sights_in}
 use Rattle.star_meaning.proofs.RenamedWorld.{same_acting, same_in_block, same_in_function, same_located, same_locking, same_next, same_operation, same_turns}
 
 outcome_itself : {W E A : Type 0} (f : W → W) → ((w : W) → f w ≡ w) → (o : Outcome W E A) → outcome_as f o ≡ o
@@ -23,16 +27,25 @@ module _ {C : Type 0} where
   objects_themselves [] = refl
   objects_themselves (o ∷ os) = ap (λ x. x ∷ map (renamed (λ c. c)) os) (object_itself o) ∙ ap (λ xs. o ∷ xs) (objects_themselves os)
 
+  pub state_itself : (s : State C) → state_as (λ c. c) s ≡ s
+  state_itself s = ap (λ os. record { globals = s.globals; objects = os }) (objects_themselves s.objects)
+
   store_itself : (s : Store C) → store_as (λ c. c) s ≡ s
   store_itself s = ap (λ os. record { state = record { globals = s.state.globals; objects = os }; left = s.left }) (objects_themselves s.state.objects)
 
   world_itself : (w : World C) → world_as (λ c. c) w ≡ w
   world_itself w = ap (λ s. record { store = s; frame = w.frame; out = w.out }) (store_itself w.store)
 
+  pub all_good : (os : List (Object C)) → IsTrue (list_all (has_good (λ (c : C). true)) os)
+  all_good [] = refl
+  all_good (AList items ∷ os) = all_good os
+  all_good (ADict pairs ∷ os) = all_good os
+  all_good (AFunction cell number defaults ∷ os) = all_good os
+
   module _ (here : C) where
     -- the names that cells have
     abbrev pub own : Names C C
-    own = record { to = λ c. c; here = here; locked = [] }
+    own = record { to = λ c. c; here = here; locked = []; reads = λ n. true; good = λ c. true; here_good = refl }
 
     -- what holds of an operation while these lists and dicts are iterated over
     abbrev pub Keeps : {A : Type 0} → List ℕ → Action C A → Type 0
@@ -42,14 +55,14 @@ module _ {C : Type 0} where
     abbrev pub LeadsOn : {E A : Type 0} → Steps (World C) E A → Type 0
     LeadsOn p = (w : World C) → Leads here w (p w)
 
-    pub keeps_alone : {A : Type 0} (locked : List ℕ) (p : Action C A) → Keeps locked p → Same (record { to = λ c. c; here = here; locked = locked }) p p
+    pub keeps_alone : {A : Type 0} (locked : List ℕ) (p : Action C A) → Keeps locked p → Same (under own locked) p p
     keeps_alone locked p h = record { holds = λ s. ap p (store_itself s) ∙ sym (outcome_itself (store_as (λ c. c)) store_itself (p s)); keeps = h }
 
     pub leads_alone : {E A : Type 0} (p : Steps (World C) E A) → LeadsOn p → SameSteps own p p
-    leads_alone p h = record { at = λ w. record { holds = ap p (world_itself w) ∙ sym (outcome_itself (world_as (λ c. c)) world_itself (p w)); leads = h w } }
+    leads_alone p h = record { at = λ w good. record { holds = ap p (world_itself w) ∙ sym (outcome_itself (world_as (λ c. c)) world_itself (p w)); leads = h w } }
 
     pub leads_of : {E A : Type 0} (p q : Steps (World C) E A) → SameSteps own p q → LeadsOn p
-    leads_of p q h w = (h.at w).leads
+    leads_of p q h w = (h.at w (all_good w.store.state.objects)).leads
 
     -- ---- steps that are made of steps
 
@@ -76,3 +89,13 @@ module _ {C : Type 0} where
 
     pub turns_leads : {A : Type 0} (f : Value → A → Work C A) → ((v : Value) (a : A) → LeadsOn (f v a)) → (xs : List Value) (a : A) → LeadsOn (turns f xs a)
     turns_leads f h xs a = leads_of _ _ (same_turns own f f (λ v b. leads_alone (f v b) (h v b)) xs a)
+
+  -- a setting is what it is under the names that cells have
+  pub itself : (st : Setting C) → SameSetting (own st.cell) st st
+  itself st = record {
+    define = λ c n. refl;
+    here = refl;
+    cell = refl;
+    inputs = λ n r. refl;
+    bodies = λ c n def g e. all_sights_in (body_sights def.body);
+  }

@@ -30,7 +30,7 @@ use Rattle.star_meaning.proofs.Alone.{Keeps}
 
 module _ {C : Type 0} (here : C) (locked : List ℕ) where
   abbrev ours : Names C C
-  ours = record { to = λ c. c; here = here; locked = locked }
+  ours = record { to = λ c. c; here = here; locked = locked; reads = λ n. true; good = λ c. true; here_good = refl }
 
   pub charge_keeps : (n : ℕ) → Keeps here locked (charge n)
   charge_keeps n = (same_charge ours n).keeps

@@ -2,6 +2,8 @@
 -- are active again where steps do not fail.
 use Rattle.std.proofs.Common.{ℕ, List, [], ◌∷◌, map, Bool, refl}
 use Rattle.std.specs.Prelude.{Option, Some, None, option_map}
+use Rattle.std.specs.List.{flat_map}
+use Rattle.star_syntax.specs.Placement.{all_sights, expr_sights, in_cell, kind_sights, line_sights, seen, small_sights, statement_sights}
 use Rattle.star_syntax.specs.declared.expression.Arm.{Arm}
 use Rattle.star_syntax.specs.declared.expression.Clause.{Clause}
 use Rattle.star_syntax.specs.declared.expression.Clause.TheVariants as clause
@@ -27,8 +29,10 @@ use Rattle.star_meaning.specs.World.{Course, Work, World}
 use Rattle.star_meaning.specs.Expressions.{Callee, Setting, called, chained, chosen, clauses_from, comprehension, display_pairs, front, loop_over, meant, method_called, named_values, next_item, parts, place, read_input, store_at, store_in, suffix_value, suffixed, tests_value, values}
 use Rattle.star_meaning.specs.Statements.{Filled, body_of, call_to, condition_of, echo_if, for_turns, in_sequence, iterated, kind_of, line_of, operator, run_body, small_of, statement_of}
 use Rattle.star_meaning.specs.Cells.{statements_from}
-use Rattle.star_meaning.specs.Renaming.{Names, SameSetting, SameCallee, SameMeant}
-use Rattle.star_meaning.proofs.Alone.{LeadsOn, leads_alone, leads_of, own}
+use Rattle.star_meaning.specs.Reading.{body_sights}
+use Rattle.star_meaning.specs.Renaming.{Names, SameCallee, SameMeant}
+use Rattle.star_meaning.proofs.Alone.{LeadsOn, itself, leads_alone, leads_of, own}
+use Rattle.star_meaning.proofs.ReadingLemmas.{all_sights_in, all_uses_in, may_read_all}
 use Rattle.star_meaning.proofs.Equations.{clause_meant}
 use Rattle.star_meaning.proofs.Forms.{arm_meant, link_meant, named_meant, pair_meant, suffix_meant}
 use Rattle.star_meaning.proofs.RenamedExpressions.{Each, Both, Alike, AlikeClause, AlikeNamed, AlikePair, same_clauses_from, same_comprehension, same_display_pairs, same_loop_over, same_method_called, same_next_item, same_store_at, same_store_in, same_tests_value, same_values}
@@ -47,14 +51,11 @@ module _ {C : Type 0} (setting : Setting C) (n : ℕ) where
   abbrev ours : Names C C
   ours = own setting.cell
 
-  itself : SameSetting ours setting setting
-  itself = record { define = λ c m. refl; here = refl; cell = refl; inputs = refl }
-
   calls : SameCallee ours call call
-  calls = same_call_to ours setting setting itself n
+  calls = same_call_to ours setting setting (itself setting) n
 
   of : (e : Expr) → SameMeant ours (meant setting call e) (meant setting call e)
-  of = same_meant ours setting setting itself call call calls
+  of e = same_meant ours setting setting (itself setting) call call calls e (all_uses_in (seen e).uses)
 
   all_of : (es : List Expr) → Each (Alike ours) (map (meant setting call) es) (map (meant setting call) es)
   all_of [] = tt
@@ -68,7 +69,7 @@ module _ {C : Type 0} (setting : Setting C) (n : ℕ) where
   step_of None = tt
   step_of (Some o) = both_of o
 
-  links_of : (xs : List (Link Expr)) → Each (AlikeLink ours setting setting itself call call calls) (map (link_meant setting call) xs) (map (link_meant setting call) xs)
+  links_of : (xs : List (Link Expr)) → Each (AlikeLink ours setting setting (itself setting) call call calls) (map (link_meant setting call) xs) (map (link_meant setting call) xs)
   links_of [] = tt
   links_of (x ∷ xs) = (record { op_is = refl; operand_is = of x.operand }, links_of xs)
 
@@ -80,7 +81,7 @@ module _ {C : Type 0} (setting : Setting C) (n : ℕ) where
   named_of [] = tt
   named_of (x ∷ xs) = (record { name_is = refl; value_is = of x.value }, named_of xs)
 
-  arms_of : (xs : List (Arm Expr)) → Each (AlikeArm ours setting setting itself call call calls) (map (arm_meant setting call) xs) (map (arm_meant setting call) xs)
+  arms_of : (xs : List (Arm Expr)) → Each (AlikeArm ours setting setting (itself setting) call call calls) (map (arm_meant setting call) xs) (map (arm_meant setting call) xs)
   arms_of [] = tt
   arms_of (x ∷ xs) = (record { value_is = of x.value; condition_is = of x.condition }, arms_of xs)
 
@@ -92,13 +93,13 @@ module _ {C : Type 0} (setting : Setting C) (n : ℕ) where
   clauses_of [] = tt
   clauses_of (x ∷ xs) = (clause_of x, clauses_of xs)
 
-  suffix_of : (x : Suffix Expr) → AlikeSuffix ours setting setting itself call call calls (suffix_meant setting call x) (suffix_meant setting call x)
+  suffix_of : (x : Suffix Expr) → AlikeSuffix ours setting setting (itself setting) call call calls (suffix_meant setting call x) (suffix_meant setting call x)
   suffix_of (suffix.Index at) = of at
   suffix_of (suffix.Slice start stop by) = (both_of start, both_of stop, step_of by)
   suffix_of (suffix.Call given) = (all_of given.positional, named_of given.named, refl)
   suffix_of (suffix.Method name given) = (refl, (all_of given.positional, named_of given.named, refl))
 
-  suffixes_of : (xs : List (Suffix Expr)) → Each (AlikeSuffix ours setting setting itself call call calls) (map (suffix_meant setting call) xs) (map (suffix_meant setting call) xs)
+  suffixes_of : (xs : List (Suffix Expr)) → Each (AlikeSuffix ours setting setting (itself setting) call call calls) (map (suffix_meant setting call) xs) (map (suffix_meant setting call) xs)
   suffixes_of [] = tt
   suffixes_of (x ∷ xs) = (suffix_of x, suffixes_of xs)
 
@@ -117,7 +118,7 @@ module _ {C : Type 0} (setting : Setting C) (n : ℕ) where
   values_leads es = leads_of setting.cell _ _ (same_values ours _ _ (all_of es))
 
   pub named_leads : (xs : List (Named Expr)) → Leading (named_values (map (named_meant setting call) xs))
-  named_leads xs = leads_of setting.cell _ _ (same_named_values ours setting setting itself call call calls _ _ (named_of xs))
+  named_leads xs = leads_of setting.cell _ _ (same_named_values ours setting setting (itself setting) call call calls _ _ (named_of xs))
 
   pub tests_leads : (es : List Expr) → Leading (tests_value (map (meant setting call) es))
   tests_leads es = leads_of setting.cell _ _ (same_tests_value ours _ _ (all_of es))
@@ -126,32 +127,32 @@ module _ {C : Type 0} (setting : Setting C) (n : ℕ) where
   pairs_leads done xs = leads_of setting.cell _ _ (same_display_pairs ours done _ _ (pairs_of xs))
 
   pub chained_leads : (xs : List (Link Expr)) (v : Value) → Leading (chained setting call (map (link_meant setting call) xs) v)
-  chained_leads xs v = leads_of setting.cell _ _ (same_chained ours setting setting itself call call calls _ _ (links_of xs) v)
+  chained_leads xs v = leads_of setting.cell _ _ (same_chained ours setting setting (itself setting) call call calls _ _ (links_of xs) v)
 
   pub chosen_leads : (xs : List (Arm Expr)) (e : Expr) → Leading (chosen setting call (map (arm_meant setting call) xs) (meant setting call e))
-  chosen_leads xs e = leads_of setting.cell _ _ (same_chosen ours setting setting itself call call calls _ _ _ _ (arms_of xs) (of e))
+  chosen_leads xs e = leads_of setting.cell _ _ (same_chosen ours setting setting (itself setting) call call calls _ _ _ _ (arms_of xs) (of e))
 
   pub suffix_leads : (x : Suffix Expr) (v : Value) → Leading (suffix_value setting call (suffix_meant setting call x) v)
-  suffix_leads x v = leads_of setting.cell _ _ (same_suffix_value ours setting setting itself call call calls _ _ (suffix_of x) v)
+  suffix_leads x v = leads_of setting.cell _ _ (same_suffix_value ours setting setting (itself setting) call call calls _ _ (suffix_of x) v)
 
   pub suffixed_leads : (xs : List (Suffix Expr)) (v : Value) → Leading (suffixed setting call (map (suffix_meant setting call) xs) v)
-  suffixed_leads xs v = leads_of setting.cell _ _ (same_suffixed ours setting setting itself call call calls _ _ (suffixes_of xs) v)
+  suffixed_leads xs v = leads_of setting.cell _ _ (same_suffixed ours setting setting (itself setting) call call calls _ _ (suffixes_of xs) v)
 
   pub front_leads : (e : Expr) (xs : List (Suffix Expr)) → Leading (front setting call (meant setting call e) (map (suffix_meant setting call) xs)).0
-  front_leads e xs = leads_of setting.cell _ _ (front_alike ours setting setting itself call call calls _ _ _ _ (of e) (suffixes_of xs)).0
+  front_leads e xs = leads_of setting.cell _ _ (front_alike ours setting setting (itself setting) call call calls _ _ _ _ (of e) (suffixes_of xs) (may_read_all _)).0
 
   pub place_leads : (e : Expr) (xs : List (Suffix Expr)) → Leading (place setting call (meant setting call e) (map (suffix_meant setting call) xs))
-  place_leads e xs = leads_of setting.cell _ _ (same_place ours setting setting itself call call calls _ _ _ _ (of e) (suffixes_of xs))
+  place_leads e xs = leads_of setting.cell _ _ (same_place ours setting setting (itself setting) call call calls _ _ _ _ (of e) (suffixes_of xs) (may_read_all _))
 
   pub parts_leads : (xs : List (Suffix Expr)) (v : Value) → Leading (parts setting call (map (suffix_meant setting call) xs) v)
-  parts_leads xs v = leads_of setting.cell _ _ (same_parts ours setting setting itself call call calls _ _ (suffixes_of xs) v)
+  parts_leads xs v = leads_of setting.cell _ _ (same_parts ours setting setting (itself setting) call call calls _ _ (suffixes_of xs) v)
 
   pub input_leads : (name : List ℕ) → Leading (read_input setting name)
-  input_leads name = leads_of setting.cell _ _ (same_read_input ours setting setting itself call call calls name)
+  input_leads name = leads_of setting.cell _ _ (same_read_input ours setting setting (itself setting) call call calls name refl)
 
   -- a call of a value, and of a method
   pub called_leads : (f : Value) (vs : List Value) (named : ByName) → Leading (called setting call f vs named)
-  called_leads f vs named = leads_of setting.cell _ _ (same_called ours setting setting itself call call calls f vs named)
+  called_leads f vs named = leads_of setting.cell _ _ (same_called ours setting setting (itself setting) call call calls f vs named)
 
   pub method_leads : (name : List ℕ) (x : Value) (vs : List Value) (named : ByName) → Leading (method_called name x vs named)
   method_leads name x vs named = leads_of setting.cell _ _ (same_method_called ours name x vs named)
@@ -180,34 +181,34 @@ module _ {C : Type 0} (setting : Setting C) (n : ℕ) where
   -- ---- statements
 
   pub operator_leads : (op : BinaryOp) (x y : Value) → Leading (operator setting call op x y)
-  operator_leads op x y = leads_of setting.cell _ _ (same_operator ours setting setting itself call call calls op x y)
+  operator_leads op x y = leads_of setting.cell _ _ (same_operator ours setting setting (itself setting) call call calls op x y)
 
   pub echo_leads : (b : Bool) (v : Value) → Leading (echo_if setting call b v)
-  echo_leads b v = leads_of setting.cell _ _ (same_echo_if ours setting setting itself call call calls b v)
+  echo_leads b v = leads_of setting.cell _ _ (same_echo_if ours setting setting (itself setting) call call calls b v)
 
   pub kind_leads : (last : Bool) (k : SmallKind) → Leading (kind_of setting call last k)
-  kind_leads last k = leads_of setting.cell _ _ (same_kind_of ours setting setting itself call call calls last k)
+  kind_leads last k = leads_of setting.cell _ _ (same_kind_of ours setting setting (itself setting) call call calls in_cell 0 last k (all_sights_in (kind_sights in_cell 0 k)))
 
   pub small_leads : (last : Bool) (s : Small) → Leading (small_of setting call last s)
-  small_leads last s = leads_of setting.cell _ _ (same_small_of ours setting setting itself call call calls last s)
+  small_leads last s = leads_of setting.cell _ _ (same_small_of ours setting setting (itself setting) call call calls in_cell last s (all_sights_in (small_sights in_cell s)))
 
   pub line_leads : (last : Bool) (line : Line) → Leading (line_of setting call last line)
-  line_leads last line = leads_of setting.cell _ _ (same_line_of ours setting setting itself call call calls last line)
+  line_leads last line = leads_of setting.cell _ _ (same_line_of ours setting setting (itself setting) call call calls in_cell last line (all_sights_in (line_sights in_cell line)))
 
   pub condition_leads : (at : ℕ) (e : Expr) → Leading (condition_of setting call at e)
-  condition_leads at e = leads_of setting.cell _ _ (same_condition ours setting setting itself call call calls at e)
+  condition_leads at e = leads_of setting.cell _ _ (same_condition ours setting setting (itself setting) call call calls at e (all_sights_in (expr_sights at e)))
 
   pub iterated_leads : (over : List Expr) → Leading (iterated setting call over)
-  iterated_leads over = leads_of setting.cell _ _ (same_iterated ours setting setting itself call call calls over)
+  iterated_leads over = leads_of setting.cell _ _ (same_iterated ours setting setting (itself setting) call call calls 0 over (all_sights_in (all_sights 0 over)))
 
   pub statement_leads : (s : Statement) (last : Bool) (number : Option ℕ) → Leading (statement_of setting call s last number)
-  statement_leads s last number = leads_of setting.cell _ _ (same_statement ours setting setting itself call call calls s last number)
+  statement_leads s last number = leads_of setting.cell _ _ (same_statement ours setting setting (itself setting) call call calls s in_cell (all_sights_in (statement_sights s in_cell)) last number)
 
   pub body_leads : (body : Block Statement) → Leading (body_of setting call body)
-  body_leads body = leads_of setting.cell _ _ (same_body ours setting setting itself call call calls body)
+  body_leads body = leads_of setting.cell _ _ (same_body ours setting setting (itself setting) call call calls body (all_sights_in (body_sights body)))
 
   pub statements_leads : (number : ℕ) (ss : List Statement) → Leading (statements_from setting call number ss)
-  statements_leads number ss = leads_of setting.cell _ _ (same_statements_from ours setting setting itself call call calls number ss)
+  statements_leads number ss = leads_of setting.cell _ _ (same_statements_from ours setting setting (itself setting) call call calls number ss (all_sights_in (flat_map (λ s. statement_sights s in_cell) ss)))
 
   pub turns_of_for_leads : (next : Value → Course C (Unit {0})) (body : Course C Flow) → ((v : Value) → Leading (next v)) → Leading body → (xs : List Value) → Leading (for_turns next body xs)
   turns_of_for_leads next body h k xs = leads_of setting.cell _ _ (same_for_turns ours next next body body (λ v. leads_alone setting.cell (next v) (h v)) (leads_alone setting.cell body k) xs)
@@ -221,4 +222,4 @@ module _ {C : Type 0} (setting : Setting C) (n : ℕ) where
   call_leads id vs named = leads_of setting.cell _ _ (calls id vs named)
 
   pub run_body_leads : (def : Definition Statement) (id : ℕ) (all : List Filled) → Leading (run_body setting call def id all)
-  run_body_leads def id all = leads_of setting.cell _ _ (same_run_body ours setting setting itself call call calls def id all)
+  run_body_leads def id all = leads_of setting.cell _ _ (same_run_body ours setting setting (itself setting) call call calls def (all_sights_in (body_sights def.body)) id all)

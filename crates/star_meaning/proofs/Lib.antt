@@ -1,3 +1,4 @@
+pub mod AgreementLaw
 pub mod Alone
 pub mod Equations
 pub mod Evaluated
@@ -10,6 +11,7 @@ pub mod Leading
 pub mod LeadingLaws
 pub mod OneCell
 pub mod Opened
+pub mod ReadingLemmas
 pub mod Renamed
 pub mod RenamedComparing
 pub mod RenamedShowing

@@ -1,12 +1,14 @@
 -- Cells do the same whatever the names of cells.
 use Rattle.std.proofs.Common.{◌≡◌, ℕ, ◌+◌, ◌-◌, List, [], ◌∷◌, ◌++◌, map, refl, sym, ap, ◌∙◌}
-use Rattle.std.specs.Prelude.{Option, Some, None, option_and_then}
+use Rattle.std.specs.Prelude.{Option, Some, None, option_and_then, true}
+use Rattle.std.specs.List.{flat_map}
 use Rattle.chex_base.specs.declared.input.Input.{Input}
 use Rattle.star_syntax.specs.declared.cell.Program.{Program}
 use Rattle.star_syntax.specs.declared.statement.Module.{Module}
 use Rattle.star_syntax.specs.declared.statement.Statement.{Statement}
 use Rattle.star_syntax.specs.CellParts.{CellParts}
 use Rattle.star_syntax.specs.Cells.{numbered}
+use Rattle.star_syntax.specs.Placement.{Sight, in_cell, sights, statement_sights}
 use Rattle.star_meaning.specs.declared.flow.Flow.{Flow}
 use Rattle.star_meaning.specs.declared.flow.Flow.TheVariants as flow
 use Rattle.star_meaning.specs.declared.ran.Ran.{Ran}
@@ -17,68 +19,86 @@ use Rattle.star_meaning.specs.Expressions.{Callee, Setting}
 use Rattle.star_meaning.specs.Statements.{call_to}
 use Rattle.star_meaning.specs.Cells.{Shown, function_in, is_def, ran, ran_of, run, shown_setting, statements_from}
 use Rattle.star_meaning.specs.Validity.{MachineState, after, number_or, numbered_from, ran_at, renamed, cell_of, cell_or_none, function_at, run_at, shown, numbered_setting}
-use Rattle.star_meaning.specs.Renaming.{Names, state_as, world_as, outcome_as, SameSteps, SameSetting, SameCallee}
+use Rattle.star_meaning.specs.Renaming.{AreGood, Names, state_as, world_as, outcome_as, SameSteps, SameSetting, SameCallee}
 use Rattle.star_meaning.specs.Growing.{Grown, IsKept, IsMade, reached}
+use Rattle.star_meaning.specs.Reading.{SightsIn, body_sights, sight_in}
+use Rattle.star_meaning.proofs.Alone.{all_good, itself, leads_of, own}
+use Rattle.star_meaning.proofs.ReadingLemmas.{all_sights_in, halves}
 use Rattle.star_meaning.proofs.RenamedWorld.{same_going, same_next}
 use Rattle.star_meaning.proofs.RenamedStatements.{same_call_to, same_go_on, same_statement}
 
 module _ {C D : Type 0} (name : Names C D) (st : Setting C) (su : Setting D) (same_st : SameSetting name st su) where
-  pub same_statements_from : (c : Callee C) (d : Callee D) → SameCallee name c d → (n : ℕ) (ss : List Statement) → SameSteps name (statements_from st c n ss) (statements_from su d n ss)
-  same_statements_from c d h n [] = same_going name flow.On
-  same_statements_from c d h n (s ∷ ss) =
-      same_next name _ _ _ _ (same_statement name st su same_st c d h s _ (Some n)) (same_go_on name _ _ (same_statements_from c d h (n + is_def s) ss))
+  -- what statements of a cell show
+  abbrev pub cell_sights : List Statement → List Sight
+  cell_sights ss = flat_map (λ s. statement_sights s in_cell) ss
+
+  pub same_statements_from : (c : Callee C) (d : Callee D) → SameCallee name c d → (n : ℕ) (ss : List Statement) → SightsIn name.reads (cell_sights ss) → SameSteps name (statements_from st c n ss) (statements_from su d n ss)
+  same_statements_from c d h n [] r = same_going name flow.On
+  same_statements_from c d h n (s ∷ ss) r =
+      let parts = halves (sight_in name.reads) (statement_sights s in_cell) (cell_sights ss) r in
+      same_next name _ _ _ _ (same_statement name st su same_st c d h s in_cell parts.0 _ (Some n)) (same_go_on name _ _ (same_statements_from c d h (n + is_def s) ss parts.1))
 
   ran_as : (allowance : ℕ) (o : Outcome (World C) Fault Flow) → ran_of allowance (outcome_as (world_as name.to) o) ≡ ((ran_of allowance o).0, state_as name.to (ran_of allowance o).1)
   ran_as allowance (Went f w) = refl
   ran_as allowance (Failed e w) = refl
 
-  -- a cell does the same in a state in which cells have other names
-  pub run_as : (tree : Module) (allowance : ℕ) (s : State C) → run su tree allowance (state_as name.to s) ≡ ((run st tree allowance s).0, state_as name.to (run st tree allowance s).1)
-  unfolding run
-  run_as tree allowance s =
-      ap (ran_of allowance) (((same_statements_from (call_to st 32) (call_to su 32) (same_call_to name st su same_st 32) 0 tree.statements).at (start s (allowance - 1))).holds)
+  -- a cell that reads no other inputs does the same in a state in which cells have other names and functions read no others
+  pub run_as : (tree : Module) → SightsIn name.reads (sights tree) → (allowance : ℕ) (s : State C) → AreGood name s → run su tree allowance (state_as name.to s) ≡ ((run st tree allowance s).0, state_as name.to (run st tree allowance s).1)
+  unfolding run sights
+  run_as tree r allowance s good =
+      ap (ran_of allowance) (((same_statements_from (call_to st 32) (call_to su 32) (same_call_to name st su same_st 32) 0 tree.statements r).at (start s (allowance - 1)) good).holds)
       ∙ ran_as allowance (statements_from st (call_to st 32) 0 tree.statements (start s (allowance - 1)))
 
 define_as : (n : ℕ) (o : Option CellParts) → function_in (cell_or_none o) n ≡ option_and_then (λ cell. function_in cell n) o
 define_as n None = refl
 define_as n (Some cell) = refl
 
--- the numbers of a program's cells, and the cells themselves
-pub same_numbers : (program : Program) (node : ℕ) (inputs : List (List ℕ × Input)) → SameSetting (record { to = cell_of program; here = node; locked = [] }) (numbered_setting program node inputs) (shown_setting (cell_of program node) inputs)
+-- the numbers of a program's cells, for the cells themselves
+abbrev pub numbers_of : Program → ℕ → Names ℕ CellParts
+numbers_of program node = record { to = cell_of program; here = node; locked = []; reads = λ n. true; good = λ c. true; here_good = refl }
+
+pub same_numbers : (program : Program) (node : ℕ) (inputs : List (List ℕ × Input)) → SameSetting (numbers_of program node) (numbered_setting program node inputs) (shown_setting (cell_of program node) inputs)
 unfolding function_at cell_of
-same_numbers program node inputs = record { define = λ c n. define_as n (numbered program.cells c); here = refl; cell = refl; inputs = refl }
+same_numbers program node inputs = record {
+  define = λ c n. define_as n (numbered program.cells c);
+  here = refl;
+  cell = refl;
+  inputs = λ n r. refl;
+  bodies = λ c n def g e. all_sights_in (body_sights def.body);
+}
 
 -- what a cell does in a shown state is what it does by numbers, shown
 pub ran_by_numbers : (program : Program) (m : MachineState) (node : ℕ) (inputs : List (List ℕ × Input)) (allowance : ℕ)
     → ran (shown program m) (cell_of program node) inputs allowance ≡ ((run_at program m node inputs allowance).0, state_as (cell_of program) (run_at program m node inputs allowance).1)
 unfolding ran shown run_at
 ran_by_numbers program m node inputs allowance =
-    run_as (record { to = cell_of program; here = node; locked = [] }) (numbered_setting program node inputs) (shown_setting (cell_of program node) inputs) (same_numbers program node inputs) (cell_of program node).«module» allowance m.state
+    run_as (numbers_of program node) (numbered_setting program node inputs) (shown_setting (cell_of program node) inputs) (same_numbers program node inputs) (cell_of program node).«module» (all_sights_in (sights (cell_of program node).«module»)) allowance m.state (all_good m.state.objects)
 
 -- ---- what stays of the objects
 
-module _ {C D : Type 0} (name : Names C D) (st : Setting C) (su : Setting D) (same_st : SameSetting name st su) where
-  reached_as : (os : List (Object C)) (allowance : ℕ) (o : Outcome (World C) Fault Flow) → Grown name.here os (reached o).store.state.objects → Grown name.here os (ran_of allowance o).1.objects
+module _ {C : Type 0} (st : Setting C) where
+  reached_as : (os : List (Object C)) (allowance : ℕ) (o : Outcome (World C) Fault Flow) → Grown st.cell os (reached o).store.state.objects → Grown st.cell os (ran_of allowance o).1.objects
   reached_as os allowance (Went f w) h = h
   reached_as os allowance (Failed e w) h = h
 
-  pub run_grows : (tree : Module) (allowance : ℕ) (s : State C) → Grown name.here s.objects (run st tree allowance s).1.objects
+  pub run_grows : (tree : Module) (allowance : ℕ) (s : State C) → Grown st.cell s.objects (run st tree allowance s).1.objects
   unfolding run
   run_grows tree allowance s =
       reached_as s.objects allowance (statements_from st (call_to st 32) 0 tree.statements (start s (allowance - 1)))
-      (((same_statements_from name st su same_st (call_to st 32) (call_to su 32) (same_call_to name st su same_st 32) 0 tree.statements).at (start s (allowance - 1))).leads.later.grown)
+      (leads_of st.cell _ _ (same_statements_from (own st.cell) st st (itself st) (call_to st 32) (call_to st 32) (same_call_to (own st.cell) st st (itself st) 32) 0 tree.statements (all_sights_in (cell_sights (own st.cell) st st (itself st) tree.statements)))
+      (start s (allowance - 1))).later.grown
 
 -- in a shown state
 pub shown_grows : (s : Shown) (cell : CellParts) (inputs : List (List ℕ × Input)) (allowance : ℕ) → Grown cell s.objects (ran s cell inputs allowance).1.objects
 unfolding ran
 shown_grows s cell inputs allowance =
-    run_grows (record { to = λ c. c; here = cell; locked = [] }) (shown_setting cell inputs) (shown_setting cell inputs) (record { define = λ c n. refl; here = refl; cell = refl; inputs = refl }) cell.«module» allowance s
+    run_grows (shown_setting cell inputs) cell.«module» allowance s
 
 -- in a machine's state
 numbers_grow : (program : Program) (m : MachineState) (node : ℕ) (inputs : List (List ℕ × Input)) (allowance : ℕ) → Grown node m.state.objects (run_at program m node inputs allowance).1.objects
 unfolding run_at
 numbers_grow program m node inputs allowance =
-    run_grows (record { to = cell_of program; here = node; locked = [] }) (numbered_setting program node inputs) (shown_setting (cell_of program node) inputs) (same_numbers program node inputs) (cell_of program node).«module» allowance m.state
+    run_grows (numbered_setting program node inputs) (cell_of program node).«module» allowance m.state
 
 module _ (node : ℕ) (f : ℕ → CellParts) where
   made_again : (o : Object ℕ) → IsMade node o → renamed (λ cell. node) (renamed f o) ≡ o

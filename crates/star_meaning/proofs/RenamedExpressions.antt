@@ -21,7 +21,7 @@ use Rattle.star_meaning.specs.Builtins.{ByName}
 use Rattle.star_meaning.specs.Values.{has}
 use Rattle.star_meaning.specs.World.{Work, World, acting, distinct, in_block, lock_of, unbound}
 use Rattle.star_meaning.specs.Expressions.{item_value, Callee, Meant, call_function, clause_names, clauses_from, compared, comprehension, dict_turn, display_pairs, input_value, list_turn, loop_over, method_called, named_from, new_key, next_item, optional_value, signed, step_value, store_at, store_each, store_in, store_items, tests_value, truth, values, values_from}
-use Rattle.star_meaning.specs.Renaming.{Names, under, Same, SameAt, SameSteps, SameCallee, SameMeant}
+use Rattle.star_meaning.specs.Renaming.{AreGood, Names, under, Same, SameAt, SameSteps, SameCallee, SameMeant}
 use Rattle.star_meaning.proofs.Renamed.{same_then, same_pure, same_fail}
 use Rattle.star_meaning.proofs.RenamedComparing.{same_if_then, same_compare, same_key_in}
 use Rattle.star_meaning.proofs.RenamedShowing.{is_true_as, same_items_of, same_new_tuple}
@@ -232,19 +232,19 @@ module _ {C D : Type 0} (name : Names C D) where
   -- ---- inputs, calls, signs
 
   pub same_call_function : (c : Callee C) (d : Callee D) → SameCallee name c d → (id : ℕ) (vs : List Value) (n : ByName) → SameSteps name (call_function c id vs n) (call_function d id vs n)
-  same_call_function c d h id vs n = record { at = λ w. let same = called_or (has w.frame.active id) w in record { holds = same.holds; leads = same.leads } }
+  same_call_function c d h id vs n = record { at = λ w good. let same = called_or (has w.frame.active id) w good in record { holds = same.holds; leads = same.leads } }
     where
-      called_or : (b : Bool) (w : World C) → SameAt name (λ v. if b then fail failure.Recursion v else c id vs n v) (λ v. if b then fail failure.Recursion v else d id vs n v) w
-      called_or true w = (same_failing name failure.Recursion).at w
-      called_or false w = (h id vs n).at w
+      called_or : (b : Bool) (w : World C) → AreGood name w.store.state → SameAt name (λ v. if b then fail failure.Recursion v else c id vs n v) (λ v. if b then fail failure.Recursion v else d id vs n v) w
+      called_or true w good = (same_failing name failure.Recursion).at w good
+      called_or false w good = (h id vs n).at w good
 
   pub same_method_called : (n : List ℕ) (x : Value) (vs : List Value) (by : ByName) → SameSteps name (method_called n x vs by) (method_called n x vs by)
   unfolding method_called
-  same_method_called n x vs by = record { at = λ w. let same = same_operate_at name _ _ w (same_call_method (under name w.frame.locked) n x vs by) in record { holds = same.holds; leads = same.leads } }
+  same_method_called n x vs by = record { at = λ w good. let same = same_operate_at name _ _ w good (same_call_method (under name w.frame.locked) n x vs by) in record { holds = same.holds; leads = same.leads } }
 
   pub same_store_at : (x at v : Value) → SameSteps name (store_at x at v) (store_at x at v)
   unfolding store_at
-  same_store_at x at v = record { at = λ w. let same = same_acting_at name _ _ w (same_store (under name w.frame.locked) x at v) in record { holds = same.holds; leads = same.leads } }
+  same_store_at x at v = record { at = λ w good. let same = same_acting_at name _ _ w (same_store (under name w.frame.locked) x at v) in record { holds = same.holds; leads = same.leads } }
 
   pub same_signed : (ss : List UnaryOp) (x : Value) → SameSteps name (signed ss x) (signed ss x)
   same_signed [] x = same_going name x

@@ -1,9 +1,9 @@
 -- Expressions mean the same whatever the names of cells: each form.
-use Rattle.std.proofs.Common.{◌≡◌, ℕ, List, [], ◌∷◌, ◌++◌, map, Bool, true, false, refl, sym, ap, subst, ◌∙◌}
+use Rattle.std.proofs.Common.{◌≡◌, ℕ, suc, List, [], ◌∷◌, ◌++◌, map, length, Bool, true, false, IsTrue, refl, sym, ap, arith, subst, ◌∙◌}
 use Rattle.std.specs.Prelude.{Option, Some, None}
 use Rattle.std.specs.List.{flat_map}
 use Rattle.chex_base.specs.Inputs as inputs
-use Rattle.star_syntax.specs.Placement.{first_literal, lone_literal}
+use Rattle.star_syntax.specs.Placement.{Seen, Use, all_uses, clause_uses, first_literal, head_uses, layer_seen, lone_literal, seen, suffix_uses}
 use Rattle.star_syntax.specs.declared.expression.Arm.{Arm}
 use Rattle.star_syntax.specs.declared.expression.Expr.{Expr, fold-roll-Expr, ind-Expr, map-Expr, roll-Expr}
 use Rattle.star_syntax.specs.declared.expression.Expr.TheOpen.{Expr-F}
@@ -29,6 +29,8 @@ use Rattle.star_meaning.specs.Builtins.{ByName}
 use Rattle.star_meaning.specs.World.{Work, operate, operation, without_first}
 use Rattle.star_meaning.specs.Expressions.{Callee, Meant, Setting, call_written, called, called_at, chained, chosen, front, headed, input_name, input_value, linked, meant, name_of, named_values, naming, parts, place, read_input, step, suffix_value, suffixed, turned}
 use Rattle.star_meaning.specs.Renaming.{Names, under, Same, SameSteps, SameSetting, SameCallee, SameMeant}
+use Rattle.star_meaning.specs.Reading.{UsesIn, use_in}
+use Rattle.star_meaning.proofs.ReadingLemmas.{MayRead, halves, head_part, head_reads, if_input, sees}
 use Rattle.star_meaning.proofs.Renamed.{same_then, same_given_or}
 use Rattle.star_meaning.proofs.RenamedShowing.{same_new_dict, same_new_list, same_new_tuple}
 use Rattle.star_meaning.proofs.RenamedOperators.{same_binary, same_index, same_slice}
@@ -40,10 +42,10 @@ module _ {C D : Type 0} (name : Names C D) (st : Setting C) (su : Setting D) (sa
   pub naming_as : (x : C) (n : ℕ) → naming su (name.to x) n ≡ naming st x n
   naming_as x n = ap name_of (same_st.define x n)
 
-  pub same_read_input : (n : List ℕ) → SameSteps name (read_input st n) (read_input su n)
+  pub same_read_input : (n : List ℕ) → IsTrue (name.reads n) → SameSteps name (read_input st n) (read_input su n)
   unfolding read_input
-  same_read_input n =
-      subst (λ all. SameSteps name (operate (given_or failure.NoInput (inputs.value_of st.inputs n) >>= input_value)) (operate (given_or failure.NoInput (inputs.value_of all n) >>= input_value))) (sym same_st.inputs)
+  same_read_input n r =
+      subst (λ o. SameSteps name (operate (given_or failure.NoInput (inputs.value_of st.inputs n) >>= input_value)) (operate (given_or failure.NoInput o >>= input_value))) (sym (same_st.inputs n r))
       (same_operate name _ _ (λ locked. same_then (under name locked) _ _ _ _ (same_given_or (under name locked) failure.NoInput (inputs.value_of st.inputs n)) (same_input_value (under name locked))))
 
   same_written : (p : Action C (Value × List ℕ)) (q : Action D (Value × List ℕ)) → ((locked : List ℕ) → Same (under name locked) p q) → SameSteps name (call_written p) (call_written q)
@@ -177,15 +179,19 @@ module _ {C D : Type 0} (name : Names C D) (st : Setting C) (su : Setting D) (sa
   abbrev AlikeFront : Work C Value × List (Suffix (Meant C)) → Work D Value × List (Suffix (Meant D)) → Type 0
   AlikeFront p q = SameSteps name p.0 q.0 × Each AlikeSuffix p.1 q.1
 
-  headed_alike : (m : Meant C) (n : Meant D) (xs : List (Suffix (Meant C))) (ys : List (Suffix (Meant D))) → Alike name m n → Each AlikeSuffix xs ys → (o : Option (List ℕ))
+  headed_alike : (m : Meant C) (n : Meant D) (xs : List (Suffix (Meant C))) (ys : List (Suffix (Meant D))) → Alike name m n → Each AlikeSuffix xs ys → (o : Option (List ℕ)) → MayRead name.reads o
       → AlikeFront (headed st c m xs o) (headed su d n ys o)
-  headed_alike m n xs ys h k None = (h.value, k)
-  headed_alike m n xs ys h k (Some i) = (same_read_input i, rest_alike xs ys k)
+  headed_alike m n xs ys h k None r = (h.value, k)
+  headed_alike m n xs ys h k (Some i) r = (same_read_input i r, rest_alike xs ys k)
 
-  pub front_alike : (m : Meant C) (n : Meant D) (xs : List (Suffix (Meant C))) (ys : List (Suffix (Meant D))) → Alike name m n → Each AlikeSuffix xs ys → AlikeFront (front st c m xs) (front su d n ys)
-  front_alike m n xs ys h k =
+  -- what is read where something is indexed or called
+  abbrev pub FrontReads : Meant C → List (Suffix (Meant C)) → Type 0
+  FrontReads m xs = MayRead name.reads (input_name st c m.is_input xs)
+
+  pub front_alike : (m : Meant C) (n : Meant D) (xs : List (Suffix (Meant C))) (ys : List (Suffix (Meant D))) → Alike name m n → Each AlikeSuffix xs ys → FrontReads m xs → AlikeFront (front st c m xs) (front su d n ys)
+  front_alike m n xs ys h k r =
       subst (λ o. AlikeFront (front st c m xs) (headed su d n ys o)) (sym (ap (λ b. input_name su d b ys) h.is_input ∙ input_as m.is_input xs ys k))
-      (headed_alike m n xs ys h k (input_name st c m.is_input xs))
+      (headed_alike m n xs ys h k (input_name st c m.is_input xs) r)
 
   pub same_parts : (xs : List (Suffix (Meant C))) (ys : List (Suffix (Meant D))) → Each AlikeSuffix xs ys → (v : Value) → SameSteps name (parts st c xs v) (parts su d ys v)
   same_parts [] [] h v = same_failing name failure.WrongType
@@ -211,8 +217,8 @@ module _ {C D : Type 0} (name : Names C D) (st : Setting C) (su : Setting D) (sa
   same_parts (suffix.Method n x ∷ xs) (suffix.Slice a b e ∷ ys) h v = absurd h.0
   same_parts (suffix.Method n x ∷ xs) (suffix.Call y ∷ ys) h v = absurd h.0
 
-  pub same_place : (m : Meant C) (n : Meant D) (xs : List (Suffix (Meant C))) (ys : List (Suffix (Meant D))) → Alike name m n → Each AlikeSuffix xs ys → SameSteps name (place st c m xs) (place su d n ys)
-  same_place m n xs ys h k = let f = front_alike m n xs ys h k in same_next name _ _ _ _ f.0 (same_parts (front st c m xs).1 (front su d n ys).1 f.1)
+  pub same_place : (m : Meant C) (n : Meant D) (xs : List (Suffix (Meant C))) (ys : List (Suffix (Meant D))) → Alike name m n → Each AlikeSuffix xs ys → FrontReads m xs → SameSteps name (place st c m xs) (place su d n ys)
+  same_place m n xs ys h k r = let f = front_alike m n xs ys h k r in same_next name _ _ _ _ f.0 (same_parts (front st c m xs).1 (front su d n ys).1 f.1)
 
   -- ---- each form, over parts that mean the same
 
@@ -297,11 +303,11 @@ module _ {C D : Type 0} (name : Names C D) (st : Setting C) (su : Setting D) (sa
     literal = refl;
   }
 
-  primary_form : (m : Meant C) (n : Meant D) (xs : List (Suffix (Meant C))) (ys : List (Suffix (Meant D))) → Alike name m n → Each AlikeSuffix xs ys → Forms (Expr-F.Primary m xs) (Expr-F.Primary n ys)
-  primary_form m n xs ys h k = let front_is = front_alike m n xs ys h k in record {
+  primary_form : (m : Meant C) (n : Meant D) (xs : List (Suffix (Meant C))) (ys : List (Suffix (Meant D))) → Alike name m n → Each AlikeSuffix xs ys → FrontReads m xs → Forms (Expr-F.Primary m xs) (Expr-F.Primary n ys)
+  primary_form m n xs ys h k r = let front_is = front_alike m n xs ys h k r in record {
     value = same_next name _ _ _ _ front_is.0 (same_suffixed (front st c m xs).1 (front su d n ys).1 front_is.1);
-    store = λ v. same_next name _ _ _ _ (same_place m n xs ys h k) (λ at. same_store_at name at.0 at.1 v);
-    update = λ f g l. same_next name _ _ _ _ (same_place m n xs ys h k) (λ at. same_next name _ _ _ _ (same_operate name _ _ (λ locked. same_index (under name locked) at.0 at.1)) (λ old.
+    store = λ v. same_next name _ _ _ _ (same_place m n xs ys h k r) (λ at. same_store_at name at.0 at.1 v);
+    update = λ f g l. same_next name _ _ _ _ (same_place m n xs ys h k r) (λ at. same_next name _ _ _ _ (same_operate name _ _ (λ locked. same_index (under name locked) at.0 at.1)) (λ old.
         same_next name _ _ _ _ (l old) (λ new. same_store_at name at.0 at.1 new)));
     names = refl;
     is_input = refl;
@@ -351,16 +357,23 @@ module _ {C D : Type 0} (name : Names C D) (st : Setting C) (su : Setting D) (sa
 
   -- ---- trees
 
+  -- uses of the name `input` that may be read
+  abbrev pub Allowed : List Use → Type 0
+  Allowed uses = UsesIn name.reads uses
+
   -- a tree, with what is shown of its parts
   abbrev Known : Type 0
-  Known = (e : Expr) × SameMeant name (meant st c e) (meant su d e)
+  Known = (e : Expr) × (Allowed (seen e).uses → SameMeant name (meant st c e) (meant su d e))
 
   abbrev bare : Expr-F Known → Expr-F Expr
   bare = map-Expr Known Expr (λ e. e.0)
 
-  all_known : (es : List Known) → Each (Alike name) (map (meant st c) (map (λ e. e.0) es)) (map (meant su d) (map (λ e. e.0) es))
-  all_known [] = tt
-  all_known (e ∷ es) = (e.1, all_known es)
+  split : (xs ys : List Use) → Allowed (xs ++ ys) → Allowed xs × Allowed ys
+  split xs ys h = halves (use_in name.reads) xs ys h
+
+  all_known : (es : List Known) → Allowed (all_uses (map seen (map (λ e. e.0) es))) → Each (Alike name) (map (meant st c) (map (λ e. e.0) es)) (map (meant su d) (map (λ e. e.0) es))
+  all_known [] h = tt
+  all_known (e ∷ es) h = let parts = split (seen e.0).uses (all_uses (map seen (map (λ o. o.0) es))) h in (e.1 parts.0, all_known es parts.1)
 
   -- the two meanings of a layer whose parts are known
   abbrev lower : Expr-F Known → Expr-F (Meant C)
@@ -368,6 +381,10 @@ module _ {C D : Type 0} (name : Names C D) (st : Setting C) (su : Setting D) (sa
 
   abbrev upper : Expr-F Known → Expr-F (Meant D)
   upper y = map-Expr Expr (Meant D) (meant su d) (bare y)
+
+  -- what the rules of placement see of it
+  abbrev sights : Expr-F Known → Expr-F Seen
+  sights y = map-Expr Expr Seen seen (bare y)
 
   links_of : {X : Type 0} → Expr-F X → List (Link X)
   links_of (Expr-F.Chain level first xs) = xs
@@ -390,99 +407,211 @@ module _ {C D : Type 0} (name : Names C D) (st : Setting C) (su : Setting D) (sa
   clauses_of (Expr-F.DictOver k v xs) = xs
   clauses_of _ = []
 
-  links_known : (level : ChainLevel) (e : Known) (xs : List (Link Known)) → Each AlikeLink (links_of (lower (Expr-F.Chain level e xs))) (links_of (upper (Expr-F.Chain level e xs)))
+  abbrev link_uses : List (Link Seen) → List Use
+  link_uses xs = flat_map (λ link. link.operand.uses) xs
+
+  links_known : (level : ChainLevel) (e : Known) (xs : List (Link Known)) → Allowed (link_uses (links_of (sights (Expr-F.Chain level e xs))))
+      → Each AlikeLink (links_of (lower (Expr-F.Chain level e xs))) (links_of (upper (Expr-F.Chain level e xs)))
   unfolding links_of
-  links_known level e [] = tt
-  links_known level e (x ∷ xs) = (record { op_is = refl; operand_is = x.operand.1 }, links_known level e xs)
+  links_known level e [] h = tt
+  links_known level e (x ∷ xs) h =
+      let parts = split (seen x.operand.0).uses (link_uses (links_of (sights (Expr-F.Chain level e xs)))) h in (record { op_is = refl; operand_is = x.operand.1 parts.0 }, links_known level e xs parts.1)
 
-  arms_known : (e : Known) (xs : List (Arm Known)) → Each AlikeArm (arms_of (lower (Expr-F.Conditional xs e))) (arms_of (upper (Expr-F.Conditional xs e)))
+  abbrev arm_uses : List (Arm Seen) → List Use
+  arm_uses xs = flat_map (λ arm. arm.value.uses ++ arm.condition.uses) xs
+
+  arms_known : (e : Known) (xs : List (Arm Known)) → Allowed (arm_uses (arms_of (sights (Expr-F.Conditional xs e)))) → Each AlikeArm (arms_of (lower (Expr-F.Conditional xs e))) (arms_of (upper (Expr-F.Conditional xs e)))
   unfolding arms_of
-  arms_known e [] = tt
-  arms_known e (x ∷ xs) = (record { value_is = x.value.1; condition_is = x.condition.1 }, arms_known e xs)
+  arms_known e [] h = tt
+  arms_known e (x ∷ xs) h =
+      let parts = split ((seen x.value.0).uses ++ (seen x.condition.0).uses) (arm_uses (arms_of (sights (Expr-F.Conditional xs e)))) h in
+      let arm = split (seen x.value.0).uses (seen x.condition.0).uses parts.0 in (record { value_is = x.value.1 arm.0; condition_is = x.condition.1 arm.1 }, arms_known e xs parts.1)
 
-  pairs_known : (b : Bool) (xs : List (Pair Known)) → Each (AlikePair name) (pairs_in (lower (Expr-F.Dict xs b))) (pairs_in (upper (Expr-F.Dict xs b)))
+  abbrev pair_uses : List (Pair Seen) → List Use
+  pair_uses xs = flat_map (λ pair. pair.key.uses ++ pair.value.uses) xs
+
+  pairs_known : (b : Bool) (xs : List (Pair Known)) → Allowed (pair_uses (pairs_in (sights (Expr-F.Dict xs b)))) → Each (AlikePair name) (pairs_in (lower (Expr-F.Dict xs b))) (pairs_in (upper (Expr-F.Dict xs b)))
   unfolding pairs_in
-  pairs_known b [] = tt
-  pairs_known b (x ∷ xs) = (record { key_is = x.key.1; value_is = x.value.1 }, pairs_known b xs)
+  pairs_known b [] h = tt
+  pairs_known b (x ∷ xs) h =
+      let parts = split ((seen x.key.0).uses ++ (seen x.value.0).uses) (pair_uses (pairs_in (sights (Expr-F.Dict xs b)))) h in
+      let pair = split (seen x.key.0).uses (seen x.value.0).uses parts.0 in (record { key_is = x.key.1 pair.0; value_is = x.value.1 pair.1 }, pairs_known b xs parts.1)
 
-  list_clauses_known : (e : Known) (xs : List (Clause Known)) → Each (AlikeClause name) (clauses_of (lower (Expr-F.ListOver e xs))) (clauses_of (upper (Expr-F.ListOver e xs)))
+  abbrev clauses_uses : List (Clause Seen) → List Use
+  clauses_uses xs = flat_map clause_uses xs
+
+  list_clauses_known : (e : Known) (xs : List (Clause Known)) → Allowed (clauses_uses (clauses_of (sights (Expr-F.ListOver e xs)))) → Each (AlikeClause name) (clauses_of (lower (Expr-F.ListOver e xs))) (clauses_of (upper (Expr-F.ListOver e xs)))
   unfolding clauses_of
-  list_clauses_known e [] = tt
-  list_clauses_known e (clause.For targets over ∷ xs) = ((all_known targets, over.1), list_clauses_known e xs)
-  list_clauses_known e (clause.If condition ∷ xs) = (condition.1, list_clauses_known e xs)
+  list_clauses_known e [] h = tt
+  list_clauses_known e (clause.For targets over ∷ xs) h =
+      let parts = split (all_uses (map seen (map (λ o. o.0) targets)) ++ (seen over.0).uses) (clauses_uses (clauses_of (sights (Expr-F.ListOver e xs)))) h in
+      let for = split (all_uses (map seen (map (λ o. o.0) targets))) (seen over.0).uses parts.0 in ((all_known targets for.0, over.1 for.1), list_clauses_known e xs parts.1)
+  list_clauses_known e (clause.If condition ∷ xs) h =
+      let parts = split (seen condition.0).uses (clauses_uses (clauses_of (sights (Expr-F.ListOver e xs)))) h in (condition.1 parts.0, list_clauses_known e xs parts.1)
 
-  dict_clauses_known : (k v : Known) (xs : List (Clause Known)) → Each (AlikeClause name) (clauses_of (lower (Expr-F.DictOver k v xs))) (clauses_of (upper (Expr-F.DictOver k v xs)))
+  dict_clauses_known : (k v : Known) (xs : List (Clause Known)) → Allowed (clauses_uses (clauses_of (sights (Expr-F.DictOver k v xs)))) → Each (AlikeClause name) (clauses_of (lower (Expr-F.DictOver k v xs))) (clauses_of (upper (Expr-F.DictOver k v xs)))
   unfolding clauses_of
-  dict_clauses_known k v [] = tt
-  dict_clauses_known k v (clause.For targets over ∷ xs) = ((all_known targets, over.1), dict_clauses_known k v xs)
-  dict_clauses_known k v (clause.If condition ∷ xs) = (condition.1, dict_clauses_known k v xs)
+  dict_clauses_known k v [] h = tt
+  dict_clauses_known k v (clause.For targets over ∷ xs) h =
+      let parts = split (all_uses (map seen (map (λ o. o.0) targets)) ++ (seen over.0).uses) (clauses_uses (clauses_of (sights (Expr-F.DictOver k v xs)))) h in
+      let for = split (all_uses (map seen (map (λ o. o.0) targets))) (seen over.0).uses parts.0 in ((all_known targets for.0, over.1 for.1), dict_clauses_known k v xs parts.1)
+  dict_clauses_known k v (clause.If condition ∷ xs) h =
+      let parts = split (seen condition.0).uses (clauses_uses (clauses_of (sights (Expr-F.DictOver k v xs)))) h in (condition.1 parts.0, dict_clauses_known k v xs parts.1)
 
-  index_known : (e at : Known) (xs : List (Suffix Known)) → Each AlikeSuffix (suffixes_of (lower (Expr-F.Primary e xs))) (suffixes_of (upper (Expr-F.Primary e xs)))
-      → Each AlikeSuffix (suffixes_of (lower (Expr-F.Primary e (suffix.Index at ∷ xs)))) (suffixes_of (upper (Expr-F.Primary e (suffix.Index at ∷ xs))))
-  unfolding suffixes_of
-  index_known e at xs h = (at.1, h)
+  abbrev suffixes_uses : List (Suffix Seen) → List Use
+  suffixes_uses xs = flat_map suffix_uses xs
 
-  slice_known : (e : Known) (i j : Option Known) (k : Option (Option Known)) (xs : List (Suffix Known)) → Each AlikeSuffix (suffixes_of (lower (Expr-F.Primary e xs))) (suffixes_of (upper (Expr-F.Primary e xs)))
-      → Each AlikeSuffix (suffixes_of (lower (Expr-F.Primary e (suffix.Slice i j k ∷ xs)))) (suffixes_of (upper (Expr-F.Primary e (suffix.Slice i j k ∷ xs))))
+  -- what the bounds of a slice read
+  abbrev AllowedSlice : Known → Option Known → Option Known → Option (Option Known) → List (Suffix Known) → Type 0
+  AllowedSlice e i j k xs = Allowed (suffixes_uses (suffixes_of (sights (Expr-F.Primary e (suffix.Slice i j k ∷ xs)))))
+
+  abbrev more_uses : Known → List (Suffix Known) → List Use
+  more_uses e xs = suffixes_uses (suffixes_of (sights (Expr-F.Primary e xs)))
+
+  abbrev KnownSlice : Known → Option Known → Option Known → Option (Option Known) → List (Suffix Known) → Type 0
+  KnownSlice e i j k xs = Each AlikeSuffix (suffixes_of (lower (Expr-F.Primary e (suffix.Slice i j k ∷ xs)))) (suffixes_of (upper (Expr-F.Primary e (suffix.Slice i j k ∷ xs))))
+
+  slice_known : (e : Known) (i j : Option Known) (k : Option (Option Known)) (xs : List (Suffix Known)) → AllowedSlice e i j k xs
+      → (Allowed (more_uses e xs) → Each AlikeSuffix (suffixes_of (lower (Expr-F.Primary e xs))) (suffixes_of (upper (Expr-F.Primary e xs)))) → KnownSlice e i j k xs
   unfolding suffixes_of
-  slice_known e None None None xs h = ((tt, tt, tt), h)
-  slice_known e None None (Some None) xs h = ((tt, tt, tt), h)
-  slice_known e None None (Some (Some k)) xs h = ((tt, tt, k.1), h)
-  slice_known e None (Some j) None xs h = ((tt, j.1, tt), h)
-  slice_known e None (Some j) (Some None) xs h = ((tt, j.1, tt), h)
-  slice_known e None (Some j) (Some (Some k)) xs h = ((tt, j.1, k.1), h)
-  slice_known e (Some i) None None xs h = ((i.1, tt, tt), h)
-  slice_known e (Some i) None (Some None) xs h = ((i.1, tt, tt), h)
-  slice_known e (Some i) None (Some (Some k)) xs h = ((i.1, tt, k.1), h)
-  slice_known e (Some i) (Some j) None xs h = ((i.1, j.1, tt), h)
-  slice_known e (Some i) (Some j) (Some None) xs h = ((i.1, j.1, tt), h)
-  slice_known e (Some i) (Some j) (Some (Some k)) xs h = ((i.1, j.1, k.1), h)
+  slice_known e None None None xs r h = ((tt, tt, tt), h r)
+  slice_known e None None (Some None) xs r h = ((tt, tt, tt), h r)
+  slice_known e None None (Some (Some k)) xs r h = let parts = split (seen k.0).uses (more_uses e xs) r in ((tt, tt, k.1 parts.0), h parts.1)
+  slice_known e None (Some j) None xs r h =
+      let parts = split ((seen j.0).uses ++ []) (more_uses e xs) r in let bounds = split (seen j.0).uses [] parts.0 in ((tt, j.1 bounds.0, tt), h parts.1)
+  slice_known e None (Some j) (Some None) xs r h =
+      let parts = split ((seen j.0).uses ++ []) (more_uses e xs) r in let bounds = split (seen j.0).uses [] parts.0 in ((tt, j.1 bounds.0, tt), h parts.1)
+  slice_known e None (Some j) (Some (Some k)) xs r h =
+      let parts = split ((seen j.0).uses ++ (seen k.0).uses) (more_uses e xs) r in let bounds = split (seen j.0).uses (seen k.0).uses parts.0 in ((tt, j.1 bounds.0, k.1 bounds.1), h parts.1)
+  slice_known e (Some i) None None xs r h =
+      let parts = split ((seen i.0).uses ++ []) (more_uses e xs) r in let bounds = split (seen i.0).uses [] parts.0 in ((i.1 bounds.0, tt, tt), h parts.1)
+  slice_known e (Some i) None (Some None) xs r h =
+      let parts = split ((seen i.0).uses ++ []) (more_uses e xs) r in let bounds = split (seen i.0).uses [] parts.0 in ((i.1 bounds.0, tt, tt), h parts.1)
+  slice_known e (Some i) None (Some (Some k)) xs r h =
+      let parts = split ((seen i.0).uses ++ (seen k.0).uses) (more_uses e xs) r in let bounds = split (seen i.0).uses (seen k.0).uses parts.0 in ((i.1 bounds.0, tt, k.1 bounds.1), h parts.1)
+  slice_known e (Some i) (Some j) None xs r h =
+      let parts = split ((seen i.0).uses ++ ((seen j.0).uses ++ [])) (more_uses e xs) r in let bounds = split (seen i.0).uses ((seen j.0).uses ++ []) parts.0 in
+      let rest = split (seen j.0).uses [] bounds.1 in ((i.1 bounds.0, j.1 rest.0, tt), h parts.1)
+  slice_known e (Some i) (Some j) (Some None) xs r h =
+      let parts = split ((seen i.0).uses ++ ((seen j.0).uses ++ [])) (more_uses e xs) r in let bounds = split (seen i.0).uses ((seen j.0).uses ++ []) parts.0 in
+      let rest = split (seen j.0).uses [] bounds.1 in ((i.1 bounds.0, j.1 rest.0, tt), h parts.1)
+  slice_known e (Some i) (Some j) (Some (Some k)) xs r h =
+      let parts = split ((seen i.0).uses ++ ((seen j.0).uses ++ (seen k.0).uses)) (more_uses e xs) r in let bounds = split (seen i.0).uses ((seen j.0).uses ++ (seen k.0).uses) parts.0 in
+      let rest = split (seen j.0).uses (seen k.0).uses bounds.1 in ((i.1 bounds.0, j.1 rest.0, k.1 rest.1), h parts.1)
 
   named_of : {X : Type 0} → Expr-F X → List (Named X)
   named_of (Expr-F.Primary head (suffix.Call given ∷ xs)) = given.named
   named_of (Expr-F.Primary head (suffix.Method n given ∷ xs)) = given.named
   named_of _ = []
 
-  call_named : (e : Known) (ps : List Known) (b : Bool) (ns : List (Named Known)) (xs : List (Suffix Known))
-      → Each (AlikeNamed name) (named_of (lower (Expr-F.Primary e (suffix.Call (record { positional = ps; named = ns; comma = b }) ∷ xs)))) (named_of (upper (Expr-F.Primary e (suffix.Call (record { positional = ps; named = ns; comma = b }) ∷ xs))))
-  unfolding named_of
-  call_named e ps b [] xs = tt
-  call_named e ps b (n ∷ ns) xs = (record { name_is = refl; value_is = n.value.1 }, call_named e ps b ns xs)
+  abbrev named_uses : List (Named Seen) → List Use
+  named_uses xs = flat_map (λ named. named.value.uses) xs
 
-  method_named : (e : Known) (m : List ℕ) (ps : List Known) (b : Bool) (ns : List (Named Known)) (xs : List (Suffix Known))
-      → Each (AlikeNamed name) (named_of (lower (Expr-F.Primary e (suffix.Method m (record { positional = ps; named = ns; comma = b }) ∷ xs)))) (named_of (upper (Expr-F.Primary e (suffix.Method m (record { positional = ps; named = ns; comma = b }) ∷ xs))))
-  unfolding named_of
-  method_named e m ps b [] xs = tt
-  method_named e m ps b (n ∷ ns) xs = (record { name_is = refl; value_is = n.value.1 }, method_named e m ps b ns xs)
+  abbrev call_layer : Known → List Known → Bool → List (Named Known) → List (Suffix Known) → Expr-F Known
+  call_layer e ps b ns xs = Expr-F.Primary e (suffix.Call (record { positional = ps; named = ns; comma = b }) ∷ xs)
 
-  suffixes_known : (e : Known) (xs : List (Suffix Known)) → Each AlikeSuffix (suffixes_of (lower (Expr-F.Primary e xs))) (suffixes_of (upper (Expr-F.Primary e xs)))
+  abbrev method_layer : Known → List ℕ → List Known → Bool → List (Named Known) → List (Suffix Known) → Expr-F Known
+  method_layer e m ps b ns xs = Expr-F.Primary e (suffix.Method m (record { positional = ps; named = ns; comma = b }) ∷ xs)
+
+  call_named : (e : Known) (ps : List Known) (b : Bool) (ns : List (Named Known)) (xs : List (Suffix Known)) → Allowed (named_uses (named_of (sights (call_layer e ps b ns xs))))
+      → Each (AlikeNamed name) (named_of (lower (call_layer e ps b ns xs))) (named_of (upper (call_layer e ps b ns xs)))
+  unfolding named_of
+  call_named e ps b [] xs h = tt
+  call_named e ps b (n ∷ ns) xs h =
+      let parts = split (seen n.value.0).uses (named_uses (named_of (sights (call_layer e ps b ns xs)))) h in (record { name_is = refl; value_is = n.value.1 parts.0 }, call_named e ps b ns xs parts.1)
+
+  method_named : (e : Known) (m : List ℕ) (ps : List Known) (b : Bool) (ns : List (Named Known)) (xs : List (Suffix Known)) → Allowed (named_uses (named_of (sights (method_layer e m ps b ns xs))))
+      → Each (AlikeNamed name) (named_of (lower (method_layer e m ps b ns xs))) (named_of (upper (method_layer e m ps b ns xs)))
+  unfolding named_of
+  method_named e m ps b [] xs h = tt
+  method_named e m ps b (n ∷ ns) xs h =
+      let parts = split (seen n.value.0).uses (named_uses (named_of (sights (method_layer e m ps b ns xs)))) h in (record { name_is = refl; value_is = n.value.1 parts.0 }, method_named e m ps b ns xs parts.1)
+
+  suffixes_known : (e : Known) (xs : List (Suffix Known)) → Allowed (more_uses e xs) → Each AlikeSuffix (suffixes_of (lower (Expr-F.Primary e xs))) (suffixes_of (upper (Expr-F.Primary e xs)))
   unfolding suffixes_of named_of
-  suffixes_known e [] = tt
-  suffixes_known e (suffix.Index at ∷ xs) = index_known e at xs (suffixes_known e xs)
-  suffixes_known e (suffix.Slice i j k ∷ xs) = slice_known e i j k xs (suffixes_known e xs)
-  suffixes_known e (suffix.Call given ∷ xs) = ((all_known given.positional, call_named e given.positional given.comma given.named xs, refl), suffixes_known e xs)
-  suffixes_known e (suffix.Method m given ∷ xs) = ((refl, (all_known given.positional, method_named e m given.positional given.comma given.named xs, refl)), suffixes_known e xs)
+  suffixes_known e [] h = tt
+  suffixes_known e (suffix.Index at ∷ xs) h = let parts = split (seen at.0).uses (more_uses e xs) h in (at.1 parts.0, suffixes_known e xs parts.1)
+  suffixes_known e (suffix.Slice i j k ∷ xs) h = slice_known e i j k xs h (suffixes_known e xs)
+  suffixes_known e (suffix.Call given ∷ xs) h =
+      let named = named_uses (named_of (sights (call_layer e given.positional given.comma given.named xs))) in
+      let parts = split (all_uses (map seen (map (λ o. o.0) given.positional)) ++ named) (more_uses e xs) h in
+      let arguments = split (all_uses (map seen (map (λ o. o.0) given.positional))) named parts.0 in
+      ((all_known given.positional arguments.0, call_named e given.positional given.comma given.named xs arguments.1, refl), suffixes_known e xs parts.1)
+  suffixes_known e (suffix.Method m given ∷ xs) h =
+      let named = named_uses (named_of (sights (method_layer e m given.positional given.comma given.named xs))) in
+      let parts = split (all_uses (map seen (map (λ o. o.0) given.positional)) ++ named) (more_uses e xs) h in
+      let arguments = split (all_uses (map seen (map (λ o. o.0) given.positional))) named parts.0 in
+      ((refl, (all_known given.positional arguments.0, method_named e m given.positional given.comma given.named xs arguments.1, refl)), suffixes_known e xs parts.1)
 
-  layer_same : (y : Expr-F Known) → Forms (lower y) (upper y)
+  -- ---- the head of what is indexed or called
+
+  literals_are : (es : List Known) (ns : List (Named (Meant C))) (os : List (Named Seen)) (b : Bool) → length ns ≡ length os
+      → lone_literal (λ m. m.literal) (map (meant st c) (map (λ e. e.0) es)) ns b ≡ lone_literal (λ s. s.literal) (map seen (map (λ e. e.0) es)) os b
+  literals_are [] ns os b h = refl
+  literals_are (e ∷ []) [] [] false h = (sees st c e.0).literal
+  literals_are (e ∷ []) [] [] true h = refl
+  literals_are (e ∷ []) (n ∷ ns) (o ∷ os) b h = refl
+  literals_are (e ∷ []) [] (o ∷ os) b h = absurd (grind (arith, h))
+  literals_are (e ∷ []) (n ∷ ns) [] b h = absurd (grind (arith, h))
+  literals_are (e ∷ o ∷ es) ns os b h = refl
+
+  named_long : (e : Known) (ps : List Known) (b : Bool) (ns : List (Named Known)) (xs : List (Suffix Known))
+      → length (named_of (lower (call_layer e ps b ns xs))) ≡ length (named_of (sights (call_layer e ps b ns xs)))
+  unfolding named_of
+  named_long e ps b [] xs = refl
+  named_long e ps b (n ∷ ns) xs = ap suc (named_long e ps b ns xs)
+
+  first_is : (e : Known) (xs : List (Suffix Known)) → first_literal (λ m. m.literal) (suffixes_of (lower (Expr-F.Primary e xs))) ≡ first_literal (λ s. s.literal) (suffixes_of (sights (Expr-F.Primary e xs)))
+  unfolding suffixes_of named_of
+  first_is e [] = refl
+  first_is e (suffix.Index at ∷ xs) = refl
+  first_is e (suffix.Slice i j k ∷ xs) = refl
+  first_is e (suffix.Call given ∷ xs) =
+      literals_are given.positional (named_of (lower (call_layer e given.positional given.comma given.named xs))) (named_of (sights (call_layer e given.positional given.comma given.named xs))) given.comma
+      (named_long e given.positional given.comma given.named xs)
+  first_is e (suffix.Method m given ∷ xs) = refl
+
+  named_if : (b : Bool) (xs : List (Suffix (Meant C))) → input_name st c b xs ≡ if_input name.reads b (first_literal (λ m. m.literal) xs)
+  named_if true xs = refl
+  named_if false xs = refl
+
+  front_reads : (e : Known) (xs : List (Suffix Known)) → Allowed (head_uses (seen e.0) (first_literal (λ s. s.literal) (suffixes_of (sights (Expr-F.Primary e xs)))))
+      → FrontReads (meant st c e.0) (suffixes_of (lower (Expr-F.Primary e xs)))
+  front_reads e xs h =
+      subst (MayRead name.reads)
+      (sym (named_if (meant st c e.0).is_input (suffixes_of (lower (Expr-F.Primary e xs)))
+      ∙ ap (λ b. if_input name.reads b (first_literal (λ m. m.literal) (suffixes_of (lower (Expr-F.Primary e xs))))) (sees st c e.0).input
+      ∙ ap (λ o. if_input name.reads (seen e.0).names_input o) (first_is e xs)))
+      (head_reads name.reads (seen e.0) (first_literal (λ s. s.literal) (suffixes_of (sights (Expr-F.Primary e xs)))) h)
+
+  layer_same : (y : Expr-F Known) → Allowed (layer_seen (sights y)).uses → Forms (lower y) (upper y)
   unfolding links_of arms_of suffixes_of pairs_in clauses_of
-  layer_same (Expr-F.Name n) = name_form n
-  layer_same (Expr-F.Int z) = record { value = constant (value.Int z); store = λ v. never; update = λ f g h. never; names = refl; is_input = refl; literal = refl }
-  layer_same (Expr-F.Text t) = record { value = constant (value.Text t); store = λ v. never; update = λ f g h. never; names = refl; is_input = refl; literal = refl }
-  layer_same Expr-F.None = record { value = constant value.None; store = λ v. never; update = λ f g h. never; names = refl; is_input = refl; literal = refl }
-  layer_same Expr-F.True = record { value = constant (value.Bool true); store = λ v. never; update = λ f g h. never; names = refl; is_input = refl; literal = refl }
-  layer_same Expr-F.False = record { value = constant (value.Bool false); store = λ v. never; update = λ f g h. never; names = refl; is_input = refl; literal = refl }
-  layer_same (Expr-F.Paren e) = paren_form _ _ e.1
-  layer_same (Expr-F.Tuple es b) = tuple_form _ _ b (all_known es)
-  layer_same (Expr-F.List es b) = list_form _ _ b (all_known es)
-  layer_same (Expr-F.ListOver e xs) = list_over_form _ _ _ _ e.1 (list_clauses_known e xs)
-  layer_same (Expr-F.Dict xs b) = dict_form _ _ b (pairs_known b xs)
-  layer_same (Expr-F.DictOver k v xs) = dict_over_form _ _ _ _ _ _ k.1 v.1 (dict_clauses_known k v xs)
-  layer_same (Expr-F.Primary e xs) = primary_form _ _ _ _ e.1 (suffixes_known e xs)
-  layer_same (Expr-F.Signed ss e) = signed_form ss _ _ e.1
-  layer_same (Expr-F.Chain level e xs) = chain_form level _ _ _ _ e.1 (links_known level e xs)
-  layer_same (Expr-F.Compare a o b) = compare_form _ _ _ _ o a.1 b.1
-  layer_same (Expr-F.Not count e) = not_form count _ _ e.1
-  layer_same (Expr-F.Conditional xs e) = conditional_form _ _ _ _ (arms_known e xs) e.1
+  layer_same (Expr-F.Name n) h = name_form n
+  layer_same (Expr-F.Int z) h = record { value = constant (value.Int z); store = λ v. never; update = λ f g h. never; names = refl; is_input = refl; literal = refl }
+  layer_same (Expr-F.Text t) h = record { value = constant (value.Text t); store = λ v. never; update = λ f g h. never; names = refl; is_input = refl; literal = refl }
+  layer_same Expr-F.None h = record { value = constant value.None; store = λ v. never; update = λ f g h. never; names = refl; is_input = refl; literal = refl }
+  layer_same Expr-F.True h = record { value = constant (value.Bool true); store = λ v. never; update = λ f g h. never; names = refl; is_input = refl; literal = refl }
+  layer_same Expr-F.False h = record { value = constant (value.Bool false); store = λ v. never; update = λ f g h. never; names = refl; is_input = refl; literal = refl }
+  layer_same (Expr-F.Paren e) h = paren_form _ _ (e.1 h)
+  layer_same (Expr-F.Tuple es b) h = tuple_form _ _ b (all_known es h)
+  layer_same (Expr-F.List es b) h = list_form _ _ b (all_known es h)
+  layer_same (Expr-F.ListOver e xs) h =
+      let parts = split (seen e.0).uses (clauses_uses (clauses_of (sights (Expr-F.ListOver e xs)))) h in list_over_form _ _ _ _ (e.1 parts.0) (list_clauses_known e xs parts.1)
+  layer_same (Expr-F.Dict xs b) h = dict_form _ _ b (pairs_known b xs h)
+  layer_same (Expr-F.DictOver k v xs) h =
+      let parts = split (seen k.0).uses ((seen v.0).uses ++ clauses_uses (clauses_of (sights (Expr-F.DictOver k v xs)))) h in
+      let rest = split (seen v.0).uses (clauses_uses (clauses_of (sights (Expr-F.DictOver k v xs)))) parts.1 in dict_over_form _ _ _ _ _ _ (k.1 parts.0) (v.1 rest.0) (dict_clauses_known k v xs rest.1)
+  layer_same (Expr-F.Primary e xs) h =
+      let first = first_literal (λ s. s.literal) (suffixes_of (sights (Expr-F.Primary e xs))) in
+      let parts = split (head_uses (seen e.0) first) (more_uses e xs) h in
+      primary_form _ _ _ _ (e.1 (head_part name.reads (seen e.0) first (sees st c e.0).uses parts.0)) (suffixes_known e xs parts.1) (front_reads e xs parts.0)
+  layer_same (Expr-F.Signed ss e) h = signed_form ss _ _ (e.1 h)
+  layer_same (Expr-F.Chain level e xs) h =
+      let parts = split (seen e.0).uses (link_uses (links_of (sights (Expr-F.Chain level e xs)))) h in chain_form level _ _ _ _ (e.1 parts.0) (links_known level e xs parts.1)
+  layer_same (Expr-F.Compare a o b) h = let parts = split (seen a.0).uses (seen b.0).uses h in compare_form _ _ _ _ o (a.1 parts.0) (b.1 parts.1)
+  layer_same (Expr-F.Not count e) h = not_form count _ _ (e.1 h)
+  layer_same (Expr-F.Conditional xs e) h =
+      let parts = split (arm_uses (arms_of (sights (Expr-F.Conditional xs e)))) (seen e.0).uses h in conditional_form _ _ _ _ (arms_known e xs parts.0) (e.1 parts.1)
 
   rolled_same : (x : Expr-F Expr) → Forms (map-Expr Expr (Meant C) (meant st c) x) (map-Expr Expr (Meant D) (meant su d) x) → SameMeant name (meant st c (roll-Expr x)) (meant su d (roll-Expr x))
   unfolding meant
@@ -490,6 +619,12 @@ module _ {C D : Type 0} (name : Names C D) (st : Setting C) (su : Setting D) (sa
       subst (λ m. SameMeant name m (meant su d (roll-Expr x))) (sym (fold-roll-Expr (Meant C) (step st c) x))
       (subst (λ n. SameMeant name (step st c (map-Expr Expr (Meant C) (meant st c) x)) n) (sym (fold-roll-Expr (Meant D) (step su d) x)) h)
 
-  -- each tree means the same whatever the names of cells
-  pub same_meant : (e : Expr) → SameMeant name (meant st c e) (meant su d e)
-  same_meant = ind-Expr (λ e. SameMeant name (meant st c e) (meant su d e)) (λ x y is. subst (λ z. SameMeant name (meant st c (roll-Expr z)) (meant su d (roll-Expr z))) is (rolled_same _ (layer_same y)))
+  rolled_uses : (x : Expr-F Expr) → Allowed (seen (roll-Expr x)).uses → Allowed (layer_seen (map-Expr Expr Seen seen x)).uses
+  unfolding seen
+  rolled_uses x h = subst (λ s. Allowed s.uses) (fold-roll-Expr Seen layer_seen x) h
+
+  -- each tree that reads no other inputs means the same whatever the names of cells
+  pub same_meant : (e : Expr) → Allowed (seen e).uses → SameMeant name (meant st c e) (meant su d e)
+  same_meant =
+      ind-Expr (λ e. Allowed (seen e).uses → SameMeant name (meant st c e) (meant su d e))
+      (λ x y is. subst (λ z. Allowed (seen (roll-Expr z)).uses → SameMeant name (meant st c (roll-Expr z)) (meant su d (roll-Expr z))) is (λ h. rolled_same _ (layer_same y (rolled_uses _ h))))

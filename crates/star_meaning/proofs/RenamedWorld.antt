@@ -8,19 +8,15 @@ use Rattle.star_value.specs.Weight.{weight}
 use Rattle.star_meaning.specs.State.{State, global, set_global}
 use Rattle.star_meaning.specs.Steps.{Outcome, Went, Failed, Steps, Store, Action, and_then, ◌>>=◌, pure, fail, given_or, charge}
 use Rattle.star_meaning.specs.World.{Block, Frame, World, Work, acting, bind, binding, in_block, in_function, left_block, located, located_at, locking, look_up, operate, operation, put_back, reading, slot_of, turns, unlocked, value_in, with_frame, with_store, write}
-use Rattle.star_meaning.specs.Renaming.{Names, state_as, store_as, under, world_as, outcome_as, Same, SameAt, SameSteps}
-use Rattle.star_meaning.specs.Growing.{IfWent, IsBack, Later, Leads, reached}
+use Rattle.star_meaning.specs.Renaming.{AreGood, Names, state_as, store_as, under, world_as, outcome_as, Same, SameAt, SameSteps}
+use Rattle.star_meaning.specs.Growing.{IsBack, Later, Leads, reached}
+use Rattle.star_meaning.proofs.GrownLemmas.{good_grown}
 use Rattle.star_meaning.proofs.LaterLemmas.{later_fewer, later_global, later_same, leads_failed, leads_on, leads_same}
 use Rattle.star_meaning.proofs.Renamed.{same_charge}
 
 -- ---- what outcomes lead to
 
 module _ {C : Type 0} (here : C) where
-  leads_next : {E A B : Type 0} (w : World C) (o : Outcome (World C) E A) (g : A → Steps (World C) E B) → Leads here w o
-      → ((a : A) (v : World C) → IsBack w.frame v.frame → Leads here v (g a v)) → Leads here w (and_then o g)
-  leads_next w (Went a v) g h k = leads_on here a w v (g a v) h (k a v h.back)
-  leads_next w (Failed e v) g h k = record { later = h.later; back = tt }
-
   leads_unlocked : {E A : Type 0} (ids : List ℕ) (w : World C) (o : Outcome (World C) E A) → Leads here (with_frame (record w.frame { locked = w.frame.locked ++ ids }) w) o
       → Leads here w (unlocked w.frame.locked o)
   leads_unlocked ids w (Went a v) h = record { later = later_fewer here w.frame.locked ids w.store v.store h.later; back = record { active = h.back.active; locked = refl } }
@@ -53,28 +49,37 @@ module _ {C : Type 0} (here : C) where
 
 module _ {C D : Type 0} (name : Names C D) where
   module _ {E : Type 0} where
-    next_at : {A B : Type 0} (w : World C) (o : Outcome (World C) E A) (g : A → Steps (World C) E B) (h : A → Steps (World D) E B) → IfWent o (λ v. IsBack w.frame v.frame)
-        → ((a : A) (v : World C) → IsBack w.frame v.frame → SameAt name (g a) (h a) v) → and_then (outcome_as (world_as name.to) o) h ≡ outcome_as (world_as name.to) (and_then o g)
-    next_at w (Went a v) g h b k = (k a v b).holds
-    next_at w (Failed e v) g h b k = refl
+    -- functions keep their cells in what steps lead to
+    good_then : {A : Type 0} (w v : World C) (a : A) → Leads {E = E} name.here w (Went a v) → AreGood name w.store.state → AreGood name v.store.state
+    good_then w v a l h = good_grown name.here name.good name.here_good w.store.state.objects v.store.state.objects l.later.grown h
+
+    next_at : {A B : Type 0} (w : World C) (o : Outcome (World C) E A) (g : A → Steps (World C) E B) (h : A → Steps (World D) E B) → AreGood name w.store.state → Leads name.here w o
+        → ((a : A) (v : World C) → IsBack w.frame v.frame → AreGood name v.store.state → SameAt name (g a) (h a) v) → and_then (outcome_as (world_as name.to) o) h ≡ outcome_as (world_as name.to) (and_then o g)
+    next_at w (Went a v) g h good l k = (k a v l.back (good_then w v a l good)).holds
+    next_at w (Failed e v) g h good l k = refl
+
+    leads_at : {A B : Type 0} (w : World C) (o : Outcome (World C) E A) (g : A → Steps (World C) E B) (h : A → Steps (World D) E B) → AreGood name w.store.state → Leads name.here w o
+        → ((a : A) (v : World C) → IsBack w.frame v.frame → AreGood name v.store.state → SameAt name (g a) (h a) v) → Leads name.here w (and_then o g)
+    leads_at w (Went a v) g h good l k = leads_on name.here a w v (g a v) l (k a v l.back (good_then w v a l good)).leads
+    leads_at w (Failed e v) g h good l k = record { later = l.later; back = tt }
 
     -- steps after steps from a world; where the later ones begin, the same lists and dicts are iterated over
-    pub same_next_at : {A B : Type 0} (p : Steps (World C) E A) (q : Steps (World D) E A) (g : A → Steps (World C) E B) (h : A → Steps (World D) E B) (w : World C)
-        → SameAt name p q w → ((a : A) (v : World C) → IsBack w.frame v.frame → SameAt name (g a) (h a) v) → SameAt name (p >>= g) (q >>= h) w
-    same_next_at p q g h w k l = record {
-      holds = ap (λ o. and_then o h) k.holds ∙ next_at w (p w) g h k.leads.back l;
-      leads = leads_next name.here w (p w) g k.leads (λ a v b. (l a v b).leads);
+    pub same_next_at : {A B : Type 0} (p : Steps (World C) E A) (q : Steps (World D) E A) (g : A → Steps (World C) E B) (h : A → Steps (World D) E B) (w : World C) → AreGood name w.store.state
+        → SameAt name p q w → ((a : A) (v : World C) → IsBack w.frame v.frame → AreGood name v.store.state → SameAt name (g a) (h a) v) → SameAt name (p >>= g) (q >>= h) w
+    same_next_at p q g h w good k l = record {
+      holds = ap (λ o. and_then o h) k.holds ∙ next_at w (p w) g h good k.leads l;
+      leads = leads_at w (p w) g h good k.leads l;
     }
 
     pub same_next : {A B : Type 0} (p : Steps (World C) E A) (q : Steps (World D) E A) (g : A → Steps (World C) E B) (h : A → Steps (World D) E B)
         → SameSteps name p q → ((a : A) → SameSteps name (g a) (h a)) → SameSteps name (p >>= g) (q >>= h)
-    same_next p q g h k l = record { at = λ w. same_next_at p q g h w (k.at w) (λ a v b. (l a).at v) }
+    same_next p q g h k l = record { at = λ w good. same_next_at p q g h w good (k.at w good) (λ a v b. (l a).at v) }
 
     pub same_going : {A : Type 0} (a : A) → SameSteps {E = E} name (pure a) (pure a)
-    same_going a = record { at = λ w. record { holds = refl; leads = leads_same name.here a w } }
+    same_going a = record { at = λ w good. record { holds = refl; leads = leads_same name.here a w } }
 
     pub same_failing : {A : Type 0} (e : E) → SameSteps {A = A} name (fail e) (fail e)
-    same_failing e = record { at = λ w. record { holds = refl; leads = leads_failed name.here e w } }
+    same_failing e = record { at = λ w good. record { holds = refl; leads = leads_failed name.here e w } }
 
     unlocked_at : {A : Type 0} (locked : List ℕ) (o : Outcome (World C) E A) → unlocked locked (outcome_as (world_as name.to) o) ≡ outcome_as (world_as name.to) (unlocked locked o)
     unlocked_at locked (Went a w) = refl
@@ -83,9 +88,9 @@ module _ {C D : Type 0} (name : Names C D) where
     pub same_locking : {A : Type 0} (ids : List ℕ) (p : Steps (World C) E A) (q : Steps (World D) E A) → SameSteps name p q → SameSteps name (locking ids p) (locking ids q)
     unfolding locking
     same_locking ids p q h = record {
-      at = λ w. let v = with_frame (record w.frame { locked = w.frame.locked ++ ids }) w in record {
-        holds = ap (unlocked w.frame.locked) (h.at v).holds ∙ unlocked_at w.frame.locked (p v);
-        leads = leads_unlocked name.here ids w (p v) (h.at v).leads;
+      at = λ w good. let v = with_frame (record w.frame { locked = w.frame.locked ++ ids }) w in record {
+        holds = ap (unlocked w.frame.locked) (h.at v good).holds ∙ unlocked_at w.frame.locked (p v);
+        leads = leads_unlocked name.here ids w (p v) (h.at v good).leads;
       };
     }
 
@@ -98,10 +103,10 @@ module _ {C D : Type 0} (name : Names C D) where
   same_acting_at p q w h = record { holds = ap (with_store (world_as name.to w)) (h.holds w.store) ∙ stored_at w (p w.store); leads = leads_stored name.here w (p w.store) (h.keeps w.store) }
 
   pub same_acting : {A : Type 0} (p : Action C A) (q : Action D A) → ((locked : List ℕ) → Same (under name locked) p q) → SameSteps name (acting p) (acting q)
-  same_acting p q h = record { at = λ w. same_acting_at p q w (h w.frame.locked) }
+  same_acting p q h = record { at = λ w good. same_acting_at p q w (h w.frame.locked) }
 
   pub same_reading : {A : Type 0} (of : State C → A) (other : State D → A) → ((s : State C) → other (state_as name.to s) ≡ of s) → SameSteps name (reading of) (reading other)
-  same_reading of other k = record { at = λ w. record { holds = ap (λ a. Went a (world_as name.to w)) (k w.store.state); leads = leads_same name.here (of w.store.state) w } }
+  same_reading of other k = record { at = λ w good. record { holds = ap (λ a. Went a (world_as name.to w)) (k w.store.state); leads = leads_same name.here (of w.store.state) w } }
 
   pub same_charging : (n : ℕ) → SameSteps name (acting (charge n)) (acting (charge n))
   same_charging n = same_acting _ _ (λ locked. same_charge (under name locked) n)
@@ -117,14 +122,15 @@ module _ {C D : Type 0} (name : Names C D) where
   same_operate p q h = same_operation _ _ (same_acting p q h)
 
   -- an operation that hangs on what is iterated over
-  pub same_operate_at : (p : Action C Value) (q : Action D Value) (w : World C) → Same (under name w.frame.locked) p q → SameAt name (operate p) (operate q) w
+  pub same_operate_at : (p : Action C Value) (q : Action D Value) (w : World C) → AreGood name w.store.state → Same (under name w.frame.locked) p q → SameAt name (operate p) (operate q) w
   unfolding operation
-  same_operate_at p q w h =
-      same_next_at _ _ _ _ w ((same_charging 1).at w) (λ _ v b. same_next_at _ _ _ _ v (same_acting_at p q v (subst (λ locked. Same (under name locked) p q) (sym b.locked) h)) (λ x u _. (same_weighed x).at u))
+  same_operate_at p q w good h =
+      same_next_at _ _ _ _ w good ((same_charging 1).at w good) (λ _ v b kept. same_next_at _ _ _ _ v kept (same_acting_at p q v (subst (λ locked. Same (under name locked) p q) (sym b.locked) h))
+      (λ x u _. (same_weighed x).at u))
 
   pub same_write : (text : List ℕ) → SameSteps name (write text) (write text)
   unfolding write
-  same_write text = record { at = λ w. record { holds = refl; leads = record { later = later_same name.here w.frame.locked w.store; back = record { active = refl; locked = refl } } } }
+  same_write text = record { at = λ w good. record { holds = refl; leads = record { later = later_same name.here w.frame.locked w.store; back = record { active = refl; locked = refl } } } }
 
   global_as : (s : State C) (n : List ℕ) → global (state_as name.to s) n ≡ global s n
   unfolding global
@@ -142,7 +148,7 @@ module _ {C D : Type 0} (name : Names C D) where
   pub same_look_up : (n : List ℕ) → SameSteps name (look_up n) (look_up n)
   unfolding look_up
   same_look_up n = record {
-    at = λ w. let o = value_in w.store.state n (slot_of w.frame.blocks n) in record {
+    at = λ w good. let o = value_in w.store.state n (slot_of w.frame.blocks n) in record {
       holds = ap (λ o. given_or failure.Unbound o (world_as name.to w)) (value_as w.store.state n (slot_of w.frame.blocks n)) ∙ given_as o w;
       leads = leads_given name.here o w;
     };
@@ -155,7 +161,7 @@ module _ {C D : Type 0} (name : Names C D) where
 
   pub same_bind : (n : List ℕ) (v : Value) → SameSteps name (bind n v) (bind n v)
   unfolding bind
-  same_bind n v = record { at = λ w. record { holds = ap (Went tt) (bound_as (slot_of w.frame.blocks n) n v w); leads = leads_binding name.here (slot_of w.frame.blocks n) n v w } }
+  same_bind n v = record { at = λ w good. record { holds = ap (Went tt) (bound_as (slot_of w.frame.blocks n) n v w); leads = leads_binding name.here (slot_of w.frame.blocks n) n v w } }
 
   put_back_at : {E A : Type 0} (f : Frame) (o : Outcome (World C) E A) → put_back f (outcome_as (world_as name.to) o) ≡ outcome_as (world_as name.to) (put_back f o)
   put_back_at f (Went a w) = refl
@@ -168,18 +174,18 @@ module _ {C D : Type 0} (name : Names C D) where
   pub same_in_block : {A : Type 0} (block : Block) (p : Work C A) (q : Work D A) → SameSteps name p q → SameSteps name (in_block block p) (in_block block q)
   unfolding in_block
   same_in_block block p q h = record {
-    at = λ w. let v = with_frame (record w.frame { blocks = block ∷ w.frame.blocks }) w in record {
-      holds = ap left_block (h.at v).holds ∙ left_block_at (p v);
-      leads = leads_left name.here (block ∷ w.frame.blocks) w (p v) (h.at v).leads;
+    at = λ w good. let v = with_frame (record w.frame { blocks = block ∷ w.frame.blocks }) w in record {
+      holds = ap left_block (h.at v good).holds ∙ left_block_at (p v);
+      leads = leads_left name.here (block ∷ w.frame.blocks) w (p v) (h.at v good).leads;
     };
   }
 
   pub same_in_function : {A : Type 0} (id : ℕ) (block : Block) (p : Work C A) (q : Work D A) → SameSteps name p q → SameSteps name (in_function id block p) (in_function id block q)
   unfolding in_function
   same_in_function id block p q h = record {
-    at = λ w. let v = with_frame (record { blocks = block ∷ []; active = w.frame.active ++ id ∷ []; locked = w.frame.locked }) w in record {
-      holds = ap (put_back w.frame) (h.at v).holds ∙ put_back_at w.frame (p v);
-      leads = leads_put_back name.here (block ∷ []) (w.frame.active ++ id ∷ []) w (p v) (h.at v).leads;
+    at = λ w good. let v = with_frame (record { blocks = block ∷ []; active = w.frame.active ++ id ∷ []; locked = w.frame.locked }) w in record {
+      holds = ap (put_back w.frame) (h.at v good).holds ∙ put_back_at w.frame (p v);
+      leads = leads_put_back name.here (block ∷ []) (w.frame.active ++ id ∷ []) w (p v) (h.at v good).leads;
     };
   }
 
@@ -193,4 +199,4 @@ module _ {C D : Type 0} (name : Names C D) where
 
   pub same_located : {A : Type 0} (line : ℕ) (p : Work C A) (q : Work D A) → SameSteps name p q → SameSteps name (located line p) (located line q)
   unfolding located
-  same_located line p q h = record { at = λ w. record { holds = ap (located_at line) (h.at w).holds ∙ located_as line (p w); leads = leads_located name.here line w (p w) (h.at w).leads } }
+  same_located line p q h = record { at = λ w good. record { holds = ap (located_at line) (h.at w good).holds ∙ located_as line (p w); leads = leads_located name.here line w (p w) (h.at w good).leads } }

@@ -6,15 +6,17 @@ use Rattle.star_syntax.specs.declared.expression.Expr.{Expr}
 use Rattle.star_syntax.specs.declared.statement.Block.{Block as Body}
 use Rattle.star_syntax.specs.declared.statement.Statement.{Statement}
 use Rattle.star_syntax.specs.CellParts.{CellParts}
+use Rattle.star_syntax.specs.Placement.{AreInputNames, names_read}
 use Rattle.star_value.specs.declared.failure.Failure.TheVariants.{TooManyCalls}
 use Rattle.star_value.specs.declared.value.Value.{Value}
-use Rattle.star_meaning.specs.State.{Object, State, function, object}
+use Rattle.star_meaning.specs.State.{Object, AList, ADict, AFunction, State, function, object}
 use Rattle.star_meaning.specs.Steps.{Failed}
 use Rattle.star_meaning.specs.Values.{has}
 use Rattle.star_meaning.specs.Builtins.{ByName}
 use Rattle.star_meaning.specs.World.{Block, Frame, World, entered, start}
 use Rattle.star_meaning.specs.Expressions.{Callee, Setting, meant, target_names}
 use Rattle.star_meaning.specs.Statements.{body_of, call_to, run_function, statement_of}
+use Rattle.star_meaning.specs.Agreement.{Agree}
 use Rattle.star_meaning.specs.Cells.{Shown, ran}
 use Rattle.star_meaning.specs.Growing.{Grown, IfWent, IsBack, reached}
 use Rattle.star_meaning.specs.Renaming.{state_as}
@@ -95,3 +97,32 @@ FramesComeBack C = EachEnds C (λ w v. IsBack w.frame v.frame)
 -- the names that a meaning binds as a target are those of its tree
 abbrev pub TargetsBindTheirNames : Type 0
 TargetsBindTheirNames = (setting : Setting CellParts) (call : Callee CellParts) (e : Expr) → (meant setting call e).names ≡ target_names e
+
+-- ---- inputs
+
+-- the names of inputs that the cells of a state's functions read, and those that they have
+abbrev pub names_in_functions : (CellParts → List (List ℕ)) → List (Object CellParts) → List (List ℕ)
+names_in_functions names [] = []
+names_in_functions names (AList items ∷ os) = names_in_functions names os
+names_in_functions names (ADict pairs ∷ os) = names_in_functions names os
+names_in_functions names (AFunction cell number defaults ∷ os) = names cell ++ names_in_functions names os
+
+-- inputs that agree on the names that the cell, and the cell of each function in the state, read give equal results
+abbrev pub OnlyReadInputsMatter : Type 0
+OnlyReadInputsMatter = (s : Shown) (cell : CellParts) (one other : List (List ℕ × Input)) (allowance : ℕ)
+    → Agree (names_read cell.«module» ++ names_in_functions (λ c. names_read c.«module») s.objects) one other → ran s cell one allowance ≡ ran s cell other allowance
+
+-- a cell's names are those that its tree reads
+abbrev pub HasItsNames : CellParts → Type 0
+HasItsNames cell = AreInputNames cell.«module» cell.inputs
+
+abbrev pub HaveTheirNames : List (Object CellParts) → Type 0
+HaveTheirNames [] = Unit {0}
+HaveTheirNames (AList items ∷ os) = HaveTheirNames os
+HaveTheirNames (ADict pairs ∷ os) = HaveTheirNames os
+HaveTheirNames (AFunction cell number defaults ∷ os) = HasItsNames cell × HaveTheirNames os
+
+-- the same of the names that cells have, as the resolver gives them
+abbrev pub OnlyNamedInputsMatter : Type 0
+OnlyNamedInputsMatter = (s : Shown) (cell : CellParts) (one other : List (List ℕ × Input)) (allowance : ℕ) → HasItsNames cell → HaveTheirNames s.objects
+    → Agree (cell.inputs ++ names_in_functions (λ c. c.inputs) s.objects) one other → ran s cell one allowance ≡ ran s cell other allowance

@@ -14,6 +14,7 @@ pub mod Trees
 pub mod Rows
 pub mod Validity
 pub mod Growing
+pub mod Reading
 pub mod Renaming
 pub mod Laws
 pub mod Agreement

@@ -60,3 +60,11 @@ pub fn what_is_locked_stays()
 pub fn targets_bind_their_names()
     ensures { laws.TargetsBindTheirNames }
 {}
+
+/// A cell reads of its inputs only those that it names, and those that the cells of the state's
+/// functions name: inputs that agree on these names give equal results.
+#[tactic(auto, using(crate::proofs::AgreementLaw::only_read_inputs_matter, crate::proofs::AgreementLaw::only_named_inputs_matter))]
+pub fn only_named_inputs_matter()
+    ensures read { laws.OnlyReadInputsMatter }
+    ensures named { laws.OnlyNamedInputsMatter }
+{}
