@@ -26,7 +26,7 @@ use Rattle.star_meaning.specs.declared.flow.Flow.{Flow}
 use Rattle.star_meaning.specs.Steps.{Steps}
 use Rattle.star_meaning.specs.Builtins.{ByName}
 use Rattle.star_meaning.specs.World.{Course, Work, World}
-use Rattle.star_meaning.specs.Expressions.{Callee, Setting, called, chained, chosen, clauses_from, comprehension, display_pairs, front, loop_over, meant, method_called, named_values, next_item, parts, place, read_input, store_at, store_in, suffix_value, suffixed, tests_value, values}
+use Rattle.star_meaning.specs.Expressions.{Callee, Setting, called, chained, chosen, clauses_from, comprehension, display_pairs, primary, loop_over, meant, method_called, named_values, next_item, parts, place, read_input, store_at, store_in, suffix_value, suffixed, tests_value, values}
 use Rattle.star_meaning.specs.Statements.{Filled, body_of, call_to, condition_of, echo_if, for_turns, in_sequence, iterated, kind_of, line_of, operator, run_body, small_of, statement_of}
 use Rattle.star_meaning.specs.Cells.{statements_from}
 use Rattle.star_meaning.specs.Reading.{body_sights}
@@ -138,7 +138,7 @@ module _ {C : Type 0} (setting : Setting C) (n : ℕ) where
   pub suffixed_leads : (xs : List (Suffix Expr)) (v : Value) → Leading (suffixed setting call (map (suffix_meant setting call) xs) v)
   suffixed_leads xs v = leads_of setting.cell _ _ (same_suffixed ours setting setting (itself setting) call call calls _ _ (suffixes_of xs) v)
 
-  pub front_leads : (e : Expr) (xs : List (Suffix Expr)) → Leading (front setting call (meant setting call e) (map (suffix_meant setting call) xs)).0
+  pub front_leads : (e : Expr) (xs : List (Suffix Expr)) → Leading (primary setting call (meant setting call e) (map (suffix_meant setting call) xs)).0
   front_leads e xs = leads_of setting.cell _ _ (front_alike ours setting setting (itself setting) call call calls _ _ _ _ (of e) (suffixes_of xs) (may_read_all _)).0
 
   pub place_leads : (e : Expr) (xs : List (Suffix Expr)) → Leading (place setting call (meant setting call e) (map (suffix_meant setting call) xs))

@@ -27,7 +27,7 @@ use Rattle.star_value.specs.declared.value.Value.TheVariants as value
 use Rattle.star_meaning.specs.Steps.{Action, ◌>>=◌, pure, fail, given_or}
 use Rattle.star_meaning.specs.Builtins.{ByName}
 use Rattle.star_meaning.specs.World.{Work, operate, operation, without_first}
-use Rattle.star_meaning.specs.Expressions.{Callee, Meant, Setting, call_written, called, called_at, chained, chosen, front, headed, input_name, input_value, linked, meant, name_of, named_values, naming, parts, place, read_input, step, suffix_value, suffixed, turned}
+use Rattle.star_meaning.specs.Expressions.{Callee, Meant, Setting, call_written, called, called_at, chained, chosen, primary, headed, input_name, input_value, linked, meant, name_of, named_values, naming, parts, place, read_input, step, suffix_value, suffixed, turned}
 use Rattle.star_meaning.specs.Renaming.{Names, under, Same, SameSteps, SameSetting, SameCallee, SameMeant}
 use Rattle.star_meaning.specs.Reading.{UsesIn, use_in}
 use Rattle.star_meaning.proofs.ReadingLemmas.{MayRead, halves, head_part, head_reads, if_input, sees}
@@ -188,9 +188,9 @@ module _ {C D : Type 0} (name : Names C D) (st : Setting C) (su : Setting D) (sa
   abbrev pub FrontReads : Meant C → List (Suffix (Meant C)) → Type 0
   FrontReads m xs = MayRead name.reads (input_name st c m.is_input xs)
 
-  pub front_alike : (m : Meant C) (n : Meant D) (xs : List (Suffix (Meant C))) (ys : List (Suffix (Meant D))) → Alike name m n → Each AlikeSuffix xs ys → FrontReads m xs → AlikeFront (front st c m xs) (front su d n ys)
+  pub front_alike : (m : Meant C) (n : Meant D) (xs : List (Suffix (Meant C))) (ys : List (Suffix (Meant D))) → Alike name m n → Each AlikeSuffix xs ys → FrontReads m xs → AlikeFront (primary st c m xs) (primary su d n ys)
   front_alike m n xs ys h k r =
-      subst (λ o. AlikeFront (front st c m xs) (headed su d n ys o)) (sym (ap (λ b. input_name su d b ys) h.is_input ∙ input_as m.is_input xs ys k))
+      subst (λ o. AlikeFront (primary st c m xs) (headed su d n ys o)) (sym (ap (λ b. input_name su d b ys) h.is_input ∙ input_as m.is_input xs ys k))
       (headed_alike m n xs ys h k (input_name st c m.is_input xs) r)
 
   pub same_parts : (xs : List (Suffix (Meant C))) (ys : List (Suffix (Meant D))) → Each AlikeSuffix xs ys → (v : Value) → SameSteps name (parts st c xs v) (parts su d ys v)
@@ -218,7 +218,7 @@ module _ {C D : Type 0} (name : Names C D) (st : Setting C) (su : Setting D) (sa
   same_parts (suffix.Method n x ∷ xs) (suffix.Call y ∷ ys) h v = absurd h.0
 
   pub same_place : (m : Meant C) (n : Meant D) (xs : List (Suffix (Meant C))) (ys : List (Suffix (Meant D))) → Alike name m n → Each AlikeSuffix xs ys → FrontReads m xs → SameSteps name (place st c m xs) (place su d n ys)
-  same_place m n xs ys h k r = let f = front_alike m n xs ys h k r in same_next name _ _ _ _ f.0 (same_parts (front st c m xs).1 (front su d n ys).1 f.1)
+  same_place m n xs ys h k r = let f = front_alike m n xs ys h k r in same_next name _ _ _ _ f.0 (same_parts (primary st c m xs).1 (primary su d n ys).1 f.1)
 
   -- ---- each form, over parts that mean the same
 
@@ -305,7 +305,7 @@ module _ {C D : Type 0} (name : Names C D) (st : Setting C) (su : Setting D) (sa
 
   primary_form : (m : Meant C) (n : Meant D) (xs : List (Suffix (Meant C))) (ys : List (Suffix (Meant D))) → Alike name m n → Each AlikeSuffix xs ys → FrontReads m xs → Forms (Expr-F.Primary m xs) (Expr-F.Primary n ys)
   primary_form m n xs ys h k r = let front_is = front_alike m n xs ys h k r in record {
-    value = same_next name _ _ _ _ front_is.0 (same_suffixed (front st c m xs).1 (front su d n ys).1 front_is.1);
+    value = same_next name _ _ _ _ front_is.0 (same_suffixed (primary st c m xs).1 (primary su d n ys).1 front_is.1);
     store = λ v. same_next name _ _ _ _ (same_place m n xs ys h k r) (λ at. same_store_at name at.0 at.1 v);
     update = λ f g l. same_next name _ _ _ _ (same_place m n xs ys h k r) (λ at. same_next name _ _ _ _ (same_operate name _ _ (λ locked. same_index (under name locked) at.0 at.1)) (λ old.
         same_next name _ _ _ _ (l old) (λ new. same_store_at name at.0 at.1 new)));

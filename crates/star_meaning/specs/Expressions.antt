@@ -299,8 +299,8 @@ module _ {C : Type 0} (setting : Setting C) (call : Callee C) where
   headed head suffixes (Some name) = (read_input setting name, without_first suffixes)
   headed head suffixes None = (head.value, suffixes)
 
-  abbrev pub front : Meant C → List (Suffix (Meant C)) → Work C Value × List (Suffix (Meant C))
-  front head suffixes = headed head suffixes (input_name head.is_input suffixes)
+  abbrev pub primary : Meant C → List (Suffix (Meant C)) → Work C Value × List (Suffix (Meant C))
+  primary head suffixes = headed head suffixes (input_name head.is_input suffixes)
 
   -- the parts of a place: what is indexed, and the index
   abbrev pub parts : List (Suffix (Meant C)) → Value → Work C (Value × Value)
@@ -309,7 +309,7 @@ module _ {C : Type 0} (setting : Setting C) (call : Callee C) where
   parts (s ∷ more) x = suffix_value s x >>= parts more
 
   abbrev pub place : Meant C → List (Suffix (Meant C)) → Work C (Value × Value)
-  place head suffixes = (front head suffixes).0 >>= parts (front head suffixes).1
+  place head suffixes = (primary head suffixes).0 >>= parts (primary head suffixes).1
 
   -- ---- conditionals
 
@@ -337,7 +337,7 @@ module _ {C : Type 0} (setting : Setting C) (call : Callee C) where
   value_step (Expr-F.ListOver m clauses) = comprehension clauses (list_turn m) [] >>= (λ vs. acting (new_list vs))
   value_step (Expr-F.Dict pairs _) = display_pairs [] pairs >>= (λ done. operate (new_dict done))
   value_step (Expr-F.DictOver k v clauses) = comprehension clauses (dict_turn k v) [] >>= (λ done. acting (new_dict done))
-  value_step (Expr-F.Primary head suffixes) = (front head suffixes).0 >>= suffixed (front head suffixes).1
+  value_step (Expr-F.Primary head suffixes) = (primary head suffixes).0 >>= suffixed (primary head suffixes).1
   value_step (Expr-F.Signed signs m) = m.value >>= signed signs
   value_step (Expr-F.Chain level first links) = first.value >>= chained links
   value_step (Expr-F.Compare a op b) = do
@@ -371,8 +371,8 @@ module _ {C : Type 0} (setting : Setting C) (call : Callee C) where
   update_step _ f = fail failure.WrongType
 
   -- what the rules of placement see of a node by itself
-  abbrev pub sight : Expr-F (Meant C) → Seen
-  sight x = layer_seen (map-Expr (Meant C) Seen (λ m. inner []) x)
+  abbrev pub node_seen : Expr-F (Meant C) → Seen
+  node_seen x = layer_seen (map-Expr (Meant C) Seen (λ m. inner []) x)
 
   abbrev pub step : Expr-F (Meant C) → Meant C
   step x = record {
@@ -380,8 +380,8 @@ module _ {C : Type 0} (setting : Setting C) (call : Callee C) where
     store = store_step x;
     update = update_step x;
     names = layer_names (map-Expr (Meant C) (List (List ℕ)) (λ m. m.names) x);
-    is_input = (sight x).names_input;
-    literal = (sight x).literal;
+    is_input = (node_seen x).names_input;
+    literal = (node_seen x).literal;
   }
 
   unfoldable pub meant : Expr → Meant C
