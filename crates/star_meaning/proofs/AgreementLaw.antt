@@ -20,13 +20,13 @@ use Rattle.star_syntax.specs.declared.statement.Statement.{Statement, fold-roll-
 use Rattle.star_syntax.specs.declared.statement.Statement.TheOpen.{Statement-F}
 use Rattle.star_syntax.specs.CellParts.{CellParts}
 use Rattle.star_syntax.specs.Cells.{def_of, layer_def}
-use Rattle.star_syntax.specs.Placement.{NestedDef, Shows, Sight, Breaks, Reads, block_sights, header_sights, in_body, in_cell, layer_sights, name_of, names_read, parameters, sights, statement_sights, unless}
+use Rattle.star_syntax.specs.Placement.{NestedDef, Shows, Finding, Breaks, Reads, block_findings, header_findings, in_body, in_cell, layer_findings, name_of, names_read, parameters, findings, statement_findings, unless}
 use Rattle.star_meaning.specs.State.{Object, AList, ADict, AFunction}
 use Rattle.star_meaning.specs.World.{is_among}
 use Rattle.star_meaning.specs.Cells.{Shown, function_in, ran, run, shown_setting}
 use Rattle.star_meaning.specs.Agreement.{Agree}
 use Rattle.star_meaning.specs.Laws.{HasItsNames, HaveTheirNames, OnlyNamedInputsMatter, OnlyReadInputsMatter, names_in_functions}
-use Rattle.star_meaning.specs.Reading.{SightsIn, body_sights, sight_in}
+use Rattle.star_meaning.specs.Reading.{FindingsIn, body_findings, finding_in}
 use Rattle.star_meaning.specs.Renaming.{Names, SameSetting, has_good}
 use Rattle.star_meaning.proofs.Alone.{state_itself}
 use Rattle.star_meaning.proofs.ReadingLemmas.{and_both, halves, joined}
@@ -80,7 +80,7 @@ module _ (one other : List (List ℕ × Input)) where
 
 -- ---- what a cell shows, and its names
 
-names_shown : (p : List ℕ → Bool) (all : List Sight) → list_all p (filter_map name_of all) ≡ list_all (sight_in p) all
+names_shown : (p : List ℕ → Bool) (all : List Finding) → list_all p (filter_map name_of all) ≡ list_all (finding_in p) all
 names_shown p [] = refl
 names_shown p (Reads name ∷ all) = ap (λ b. p name && b) (names_shown p all)
 names_shown p (Breaks breach line ∷ all) = names_shown p all
@@ -89,7 +89,7 @@ module _ (reads : List ℕ → Bool) where
   -- ---- the body of a function of the cell
 
   abbrev Reading : Statement → Type 0
-  Reading s = (def : Definition Statement) → def_of s ≡ Some def → SightsIn reads (statement_sights s in_cell) → SightsIn reads (body_sights def.body)
+  Reading s = (def : Definition Statement) → def_of s ≡ Some def → FindingsIn reads (statement_findings s in_cell) → FindingsIn reads (body_findings def.body)
 
   abbrev Part : Type 0
   Part = (s : Statement) × Reading s
@@ -98,75 +98,75 @@ module _ (reads : List ℕ → Bool) where
   bare = map-Statement Part Statement (λ s. s.0)
 
   abbrev shows : Statement-F Part → Statement-F Shows
-  shows y = map-Statement Statement Shows statement_sights (bare y)
+  shows y = map-Statement Statement Shows statement_findings (bare y)
 
   abbrev trees : List Part → List Statement
   trees ss = map (λ s. s.0) ss
 
-  all_shows : (ss : List Part) → SightsIn reads (flat_map (λ f. f in_body) (map statement_sights (trees ss))) → SightsIn reads (flat_map (λ s. statement_sights s in_body) (trees ss))
+  all_shows : (ss : List Part) → FindingsIn reads (flat_map (λ f. f in_body) (map statement_findings (trees ss))) → FindingsIn reads (flat_map (λ s. statement_findings s in_body) (trees ss))
   all_shows [] h = refl
   all_shows (s ∷ ss) h =
-      let parts = halves (sight_in reads) (statement_sights s.0 in_body) (flat_map (λ f. f in_body) (map statement_sights (trees ss))) h in
-      joined (sight_in reads) (statement_sights s.0 in_body) (flat_map (λ x. statement_sights x in_body) (trees ss)) parts.0 (all_shows ss parts.1)
+      let parts = halves (finding_in reads) (statement_findings s.0 in_body) (flat_map (λ f. f in_body) (map statement_findings (trees ss))) h in
+      joined (finding_in reads) (statement_findings s.0 in_body) (flat_map (λ x. statement_findings x in_body) (trees ss)) parts.0 (all_shows ss parts.1)
 
   -- a block, as that of a loop over nothing
   body_in : {X : Type 0} → Statement-F X → Block X
   body_in (Statement-F.For at targets over body) = body
   body_in _ = blocks.Inline (record { smalls = []; semicolon = false })
 
-  block_part : (b : Block Part) → SightsIn reads (block_sights (body_in (shows (Statement-F.For 0 [] [] b))) in_body) → SightsIn reads (body_sights (body_in (bare (Statement-F.For 0 [] [] b))))
+  block_part : (b : Block Part) → FindingsIn reads (block_findings (body_in (shows (Statement-F.For 0 [] [] b))) in_body) → FindingsIn reads (body_findings (body_in (bare (Statement-F.For 0 [] [] b))))
   unfolding body_in
   block_part (blocks.Inline line) h = h
   block_part (blocks.Indented ss) h = all_shows ss h
 
   abbrev BodyReads : Option (Definition Statement) → Type 0
   BodyReads None = Unit {0}
-  BodyReads (Some def) = SightsIn reads (body_sights def.body)
+  BodyReads (Some def) = FindingsIn reads (body_findings def.body)
 
-  layer_reads : (y : Statement-F Part) (def : Definition Statement) → layer_def (bare y) ≡ Some def → SightsIn reads (layer_sights (shows y) in_cell) → SightsIn reads (body_sights def.body)
+  layer_reads : (y : Statement-F Part) (def : Definition Statement) → layer_def (bare y) ≡ Some def → FindingsIn reads (layer_findings (shows y) in_cell) → FindingsIn reads (body_findings def.body)
   unfolding body_in
   layer_reads (Statement-F.Line line) def e h = absurd (none-some def e)
   layer_reads (Statement-F.If at first more other) def e h = absurd (none-some def e)
   layer_reads (Statement-F.For at targets over body) def e h = absurd (none-some def e)
   layer_reads (Statement-F.Def at d) def e h =
-      let header = header_sights at d.name (parameters d.required d.defaults) in
-      let block = block_sights (body_in (shows (Statement-F.For 0 [] [] d.body))) in_body in
-      let parts = halves (sight_in reads) header block (halves (sight_in reads) (unless true NestedDef at) (header ++ block) h).1 in
+      let header = header_findings at d.name (parameters d.required d.defaults) in
+      let block = block_findings (body_in (shows (Statement-F.For 0 [] [] d.body))) in_body in
+      let parts = halves (finding_in reads) header block (halves (finding_in reads) (unless true NestedDef at) (header ++ block) h).1 in
       subst BodyReads e (block_part d.body parts.1)
 
   rolled_def : (x : Statement-F Statement) → def_of (roll-Statement x) ≡ layer_def x
   unfolding def_of
   rolled_def x = ap layer_def (out-roll-Statement x)
 
-  rolled_sights : (x : Statement-F Statement) → SightsIn reads (statement_sights (roll-Statement x) in_cell) → SightsIn reads (layer_sights (map-Statement Statement Shows statement_sights x) in_cell)
-  unfolding statement_sights
-  rolled_sights x h = subst (λ f. SightsIn reads (f in_cell)) (fold-roll-Statement Shows layer_sights x) h
+  rolled_findings : (x : Statement-F Statement) → FindingsIn reads (statement_findings (roll-Statement x) in_cell) → FindingsIn reads (layer_findings (map-Statement Statement Shows statement_findings x) in_cell)
+  unfolding statement_findings
+  rolled_findings x h = subst (λ f. FindingsIn reads (f in_cell)) (fold-roll-Statement Shows layer_findings x) h
 
   def_reads : (s : Statement) → Reading s
-  def_reads = ind-Statement Reading (λ x y is. subst (λ z. Reading (roll-Statement z)) is (λ def e h. layer_reads y def (sym (rolled_def (bare y)) ∙ e) (rolled_sights (bare y) h)))
+  def_reads = ind-Statement Reading (λ x y is. subst (λ z. Reading (roll-Statement z)) is (λ def e h. layer_reads y def (sym (rolled_def (bare y)) ∙ e) (rolled_findings (bare y) h)))
 
   found : (s : Statement) (fs : List (Definition Statement)) (o : Option (Definition Statement)) (n : ℕ) (def : Definition Statement) → def_of s ≡ o → slice_get (cons_option o fs) n ≡ Some def
-      → SightsIn reads (statement_sights s in_cell) → ((m : ℕ) → slice_get fs m ≡ Some def → SightsIn reads (body_sights def.body)) → SightsIn reads (body_sights def.body)
+      → FindingsIn reads (statement_findings s in_cell) → ((m : ℕ) → slice_get fs m ≡ Some def → FindingsIn reads (body_findings def.body)) → FindingsIn reads (body_findings def.body)
   found s fs None n def e k h rest = rest n k
   found s fs (Some d) zero def e k h rest = def_reads s def (e ∙ k) h
   found s fs (Some d) (suc n) def e k h rest = rest n k
 
-  bodies_in : (ss : List Statement) (n : ℕ) (def : Definition Statement) → slice_get (filter_map def_of ss) n ≡ Some def → SightsIn reads (flat_map (λ s. statement_sights s in_cell) ss) → SightsIn reads (body_sights def.body)
+  bodies_in : (ss : List Statement) (n : ℕ) (def : Definition Statement) → slice_get (filter_map def_of ss) n ≡ Some def → FindingsIn reads (flat_map (λ s. statement_findings s in_cell) ss) → FindingsIn reads (body_findings def.body)
   bodies_in [] n def e h = absurd (none-some def e)
   bodies_in (s ∷ ss) n def e h =
-      let parts = halves (sight_in reads) (statement_sights s in_cell) (flat_map (λ x. statement_sights x in_cell) ss) h in
+      let parts = halves (finding_in reads) (statement_findings s in_cell) (flat_map (λ x. statement_findings x in_cell) ss) h in
       found s (filter_map def_of ss) (def_of s) n def refl e parts.0 (λ m k. bodies_in ss m def k parts.1)
 
   abbrev is_good : CellParts → Bool
   is_good c = list_all reads (names_read c.«module»)
 
-  sights_of : (c : CellParts) → IsTrue (is_good c) → SightsIn reads (sights c.«module»)
+  findings_of : (c : CellParts) → IsTrue (is_good c) → FindingsIn reads (findings c.«module»)
   unfolding names_read
-  sights_of c h = subst (λ b. IsTrue b) (names_shown reads (sights c.«module»)) h
+  findings_of c h = subst (λ b. IsTrue b) (names_shown reads (findings c.«module»)) h
 
-  bodies : (c : CellParts) (n : ℕ) (def : Definition Statement) → IsTrue (is_good c) → function_in c n ≡ Some def → SightsIn reads (body_sights def.body)
-  unfolding sights
-  bodies c n def h e = bodies_in c.«module».statements n def e (sights_of c h)
+  bodies : (c : CellParts) (n : ℕ) (def : Definition Statement) → IsTrue (is_good c) → function_in c n ≡ Some def → FindingsIn reads (body_findings def.body)
+  unfolding findings
+  bodies c n def h e = bodies_in c.«module».statements n def e (findings_of c h)
 
 -- ---- results
 
@@ -189,7 +189,7 @@ module _ (names : List (List ℕ)) where
       } in
       let result = run (shown_setting cell one) cell.«module» allowance s in
       sym (ap (run (shown_setting cell other) cell.«module» allowance) (sym (state_itself s))
-      ∙ run_as same (shown_setting cell one) (shown_setting cell other) settings cell.«module» (sights_of reads cell here_good) allowance s good
+      ∙ run_as same (shown_setting cell one) (shown_setting cell other) settings cell.«module» (findings_of reads cell here_good) allowance s good
       ∙ ap (λ t. (result.0, t)) (state_itself result.1))
 
   good_cell : (c : CellParts) → ((n : List ℕ) → IsTrue (is_among (names_read c.«module») n) → IsTrue (reads n)) → IsTrue (is_good reads c)

@@ -9,8 +9,8 @@ use Rattle.star_meaning.specs.Validity.{renamed}
 use Rattle.star_meaning.specs.Renaming.{Names, has_good, state_as, store_as, under, world_as, outcome_as, Same, SameSetting, SameSteps}
 use Rattle.star_meaning.specs.Growing.{Later, Leads, reached}
 use Rattle.star_meaning.specs.Expressions.{Setting}
-use Rattle.star_meaning.specs.Reading.{body_sights}
-use Rattle.star_meaning.proofs.ReadingLemmas.{all_sights_in}
+use Rattle.star_meaning.specs.Reading.{body_findings}
+use Rattle.star_meaning.proofs.ReadingLemmas.{all_findings_in}
 use Rattle.star_meaning.proofs.RenamedWorld.{same_acting, same_in_block, same_in_function, same_located, same_locking, same_next, same_operation, same_turns}
 
 outcome_itself : {W E A : Type 0} (f : W → W) → ((w : W) → f w ≡ w) → (o : Outcome W E A) → outcome_as f o ≡ o
@@ -97,5 +97,5 @@ module _ {C : Type 0} where
     here = refl;
     cell = refl;
     inputs = λ n r. refl;
-    bodies = λ c n def g e. all_sights_in (body_sights def.body);
+    bodies = λ c n def g e. all_findings_in (body_findings def.body);
   }

@@ -3,7 +3,7 @@
 use Rattle.std.proofs.Common.{ℕ, List, [], ◌∷◌, map, Bool, refl}
 use Rattle.std.specs.Prelude.{Option, Some, None, option_map}
 use Rattle.std.specs.List.{flat_map}
-use Rattle.star_syntax.specs.Placement.{all_sights, expr_sights, in_cell, kind_sights, line_sights, seen, small_sights, statement_sights}
+use Rattle.star_syntax.specs.Placement.{all_findings, expr_findings, in_cell, kind_findings, line_findings, seen, small_findings, statement_findings}
 use Rattle.star_syntax.specs.declared.expression.Arm.{Arm}
 use Rattle.star_syntax.specs.declared.expression.Clause.{Clause}
 use Rattle.star_syntax.specs.declared.expression.Clause.TheVariants as clause
@@ -29,10 +29,10 @@ use Rattle.star_meaning.specs.World.{Course, Work, World}
 use Rattle.star_meaning.specs.Expressions.{Callee, Setting, called, chained, chosen, clauses_from, comprehension, display_pairs, primary, loop_over, meant, method_called, named_values, next_item, parts, place, read_input, store_at, store_in, suffix_value, suffixed, tests_value, values}
 use Rattle.star_meaning.specs.Statements.{Filled, body_of, call_to, condition_of, echo_if, for_turns, in_sequence, iterated, kind_of, line_of, operator, run_body, small_of, statement_of}
 use Rattle.star_meaning.specs.Cells.{statements_from}
-use Rattle.star_meaning.specs.Reading.{body_sights}
+use Rattle.star_meaning.specs.Reading.{body_findings}
 use Rattle.star_meaning.specs.Renaming.{Names, SameCallee, SameMeant}
 use Rattle.star_meaning.proofs.Alone.{LeadsOn, itself, leads_alone, leads_of, own}
-use Rattle.star_meaning.proofs.ReadingLemmas.{all_sights_in, all_uses_in, may_read_all}
+use Rattle.star_meaning.proofs.ReadingLemmas.{all_findings_in, all_uses_in, may_read_all}
 use Rattle.star_meaning.proofs.Equations.{clause_meant}
 use Rattle.star_meaning.proofs.Forms.{arm_meant, link_meant, named_meant, pair_meant, suffix_meant}
 use Rattle.star_meaning.proofs.RenamedExpressions.{Each, Both, Alike, AlikeClause, AlikeNamed, AlikePair, same_clauses_from, same_comprehension, same_display_pairs, same_loop_over, same_method_called, same_next_item, same_store_at, same_store_in, same_tests_value, same_values}
@@ -187,28 +187,28 @@ module _ {C : Type 0} (setting : Setting C) (n : ℕ) where
   echo_leads b v = leads_of setting.cell _ _ (same_echo_if ours setting setting (itself setting) call call calls b v)
 
   pub kind_leads : (last : Bool) (k : SmallKind) → Leading (kind_of setting call last k)
-  kind_leads last k = leads_of setting.cell _ _ (same_kind_of ours setting setting (itself setting) call call calls in_cell 0 last k (all_sights_in (kind_sights in_cell 0 k)))
+  kind_leads last k = leads_of setting.cell _ _ (same_kind_of ours setting setting (itself setting) call call calls in_cell 0 last k (all_findings_in (kind_findings in_cell 0 k)))
 
   pub small_leads : (last : Bool) (s : Small) → Leading (small_of setting call last s)
-  small_leads last s = leads_of setting.cell _ _ (same_small_of ours setting setting (itself setting) call call calls in_cell last s (all_sights_in (small_sights in_cell s)))
+  small_leads last s = leads_of setting.cell _ _ (same_small_of ours setting setting (itself setting) call call calls in_cell last s (all_findings_in (small_findings in_cell s)))
 
   pub line_leads : (last : Bool) (line : Line) → Leading (line_of setting call last line)
-  line_leads last line = leads_of setting.cell _ _ (same_line_of ours setting setting (itself setting) call call calls in_cell last line (all_sights_in (line_sights in_cell line)))
+  line_leads last line = leads_of setting.cell _ _ (same_line_of ours setting setting (itself setting) call call calls in_cell last line (all_findings_in (line_findings in_cell line)))
 
   pub condition_leads : (at : ℕ) (e : Expr) → Leading (condition_of setting call at e)
-  condition_leads at e = leads_of setting.cell _ _ (same_condition ours setting setting (itself setting) call call calls at e (all_sights_in (expr_sights at e)))
+  condition_leads at e = leads_of setting.cell _ _ (same_condition ours setting setting (itself setting) call call calls at e (all_findings_in (expr_findings at e)))
 
   pub iterated_leads : (over : List Expr) → Leading (iterated setting call over)
-  iterated_leads over = leads_of setting.cell _ _ (same_iterated ours setting setting (itself setting) call call calls 0 over (all_sights_in (all_sights 0 over)))
+  iterated_leads over = leads_of setting.cell _ _ (same_iterated ours setting setting (itself setting) call call calls 0 over (all_findings_in (all_findings 0 over)))
 
   pub statement_leads : (s : Statement) (last : Bool) (number : Option ℕ) → Leading (statement_of setting call s last number)
-  statement_leads s last number = leads_of setting.cell _ _ (same_statement ours setting setting (itself setting) call call calls s in_cell (all_sights_in (statement_sights s in_cell)) last number)
+  statement_leads s last number = leads_of setting.cell _ _ (same_statement ours setting setting (itself setting) call call calls s in_cell (all_findings_in (statement_findings s in_cell)) last number)
 
   pub body_leads : (body : Block Statement) → Leading (body_of setting call body)
-  body_leads body = leads_of setting.cell _ _ (same_body ours setting setting (itself setting) call call calls body (all_sights_in (body_sights body)))
+  body_leads body = leads_of setting.cell _ _ (same_body ours setting setting (itself setting) call call calls body (all_findings_in (body_findings body)))
 
   pub statements_leads : (number : ℕ) (ss : List Statement) → Leading (statements_from setting call number ss)
-  statements_leads number ss = leads_of setting.cell _ _ (same_statements_from ours setting setting (itself setting) call call calls number ss (all_sights_in (flat_map (λ s. statement_sights s in_cell) ss)))
+  statements_leads number ss = leads_of setting.cell _ _ (same_statements_from ours setting setting (itself setting) call call calls number ss (all_findings_in (flat_map (λ s. statement_findings s in_cell) ss)))
 
   pub turns_of_for_leads : (next : Value → Course C (Unit {0})) (body : Course C Flow) → ((v : Value) → Leading (next v)) → Leading body → (xs : List Value) → Leading (for_turns next body xs)
   turns_of_for_leads next body h k xs = leads_of setting.cell _ _ (same_for_turns ours next next body body (λ v. leads_alone setting.cell (next v) (h v)) (leads_alone setting.cell body k) xs)
@@ -222,4 +222,4 @@ module _ {C : Type 0} (setting : Setting C) (n : ℕ) where
   call_leads id vs named = leads_of setting.cell _ _ (calls id vs named)
 
   pub run_body_leads : (def : Definition Statement) (id : ℕ) (all : List Filled) → Leading (run_body setting call def id all)
-  run_body_leads def id all = leads_of setting.cell _ _ (same_run_body ours setting setting (itself setting) call call calls def (all_sights_in (body_sights def.body)) id all)
+  run_body_leads def id all = leads_of setting.cell _ _ (same_run_body ours setting setting (itself setting) call call calls def (all_findings_in (body_findings def.body)) id all)

@@ -4,9 +4,9 @@ use Rattle.std.specs.Prelude.{◌&&◌, map, Option, Some, None, if◌then◌els
 use Rattle.std.specs.List.{list_all}
 use Rattle.star_syntax.specs.declared.expression.Expr.{Expr, fold-roll-Expr, ind-Expr, map-Expr, roll-Expr}
 use Rattle.star_syntax.specs.declared.expression.Expr.TheOpen.{Expr-F}
-use Rattle.star_syntax.specs.Placement.{Seen, Sight, Use, Breaks, Literal, Other, Reads, head_uses, is_input, layer_seen, seen, use_sight, expr_sights}
+use Rattle.star_syntax.specs.Placement.{Seen, Finding, Use, Breaks, Literal, Other, Reads, head_uses, is_input, layer_seen, seen, use_finding, expr_findings}
 use Rattle.star_meaning.specs.Expressions.{Callee, Meant, Setting, meant, step}
-use Rattle.star_meaning.specs.Reading.{use_in, sight_in, UsesIn, SightsIn}
+use Rattle.star_meaning.specs.Reading.{use_in, finding_in, UsesIn, FindingsIn}
 
 and_first : (b c : Bool) → IsTrue (b && c) → IsTrue b
 and_first true c h = refl
@@ -100,19 +100,19 @@ module _ (reads : List ℕ → Bool) where
   head_part s (Some name) h k = uses_at s.names_input name s.uses h k
   head_part s None h k = k
 
-  use_of : (line : ℕ) (u : Use) → IsTrue (sight_in reads (use_sight line u)) → IsTrue (use_in reads u)
+  use_of : (line : ℕ) (u : Use) → IsTrue (finding_in reads (use_finding line u)) → IsTrue (use_in reads u)
   use_of line (Literal name) h = h
   use_of line Other h = refl
 
-  uses_of : (line : ℕ) (uses : List Use) → SightsIn reads (map (use_sight line) uses) → UsesIn reads uses
+  uses_of : (line : ℕ) (uses : List Use) → FindingsIn reads (map (use_finding line) uses) → UsesIn reads uses
   uses_of line [] h = refl
   uses_of line (u ∷ uses) h =
-      let rest = map (use_sight line) uses in
-      and_both (use_in reads u) (list_all (use_in reads) uses) (use_of line u (and_first (sight_in reads (use_sight line u)) (list_all (sight_in reads) rest) h)) (uses_of line uses (and_second (sight_in reads (use_sight line u)) (list_all (sight_in reads) rest) h))
+      let rest = map (use_finding line) uses in
+      and_both (use_in reads u) (list_all (use_in reads) uses) (use_of line u (and_first (finding_in reads (use_finding line u)) (list_all (finding_in reads) rest) h)) (uses_of line uses (and_second (finding_in reads (use_finding line u)) (list_all (finding_in reads) rest) h))
 
   -- an expression of a statement
-  pub expr_part : (line : ℕ) (e : Expr) → SightsIn reads (expr_sights line e) → UsesIn reads (seen e).uses
-  unfolding expr_sights
+  pub expr_part : (line : ℕ) (e : Expr) → FindingsIn reads (expr_findings line e) → UsesIn reads (seen e).uses
+  unfolding expr_findings
   expr_part line e h = uses_of line (seen e).uses h
 
 -- every name may be read
@@ -122,10 +122,10 @@ all_uses_in [] = refl
 all_uses_in (Literal name ∷ uses) = all_uses_in uses
 all_uses_in (Other ∷ uses) = all_uses_in uses
 
-pub all_sights_in : (sights : List Sight) → SightsIn (λ n. true) sights
-all_sights_in [] = refl
-all_sights_in (Reads name ∷ sights) = all_sights_in sights
-all_sights_in (Breaks breach line ∷ sights) = all_sights_in sights
+pub all_findings_in : (findings : List Finding) → FindingsIn (λ n. true) findings
+all_findings_in [] = refl
+all_findings_in (Reads name ∷ findings) = all_findings_in findings
+all_findings_in (Breaks breach line ∷ findings) = all_findings_in findings
 
 pub may_read_all : (o : Option (List ℕ)) → MayRead (λ n. true) o
 may_read_all None = tt

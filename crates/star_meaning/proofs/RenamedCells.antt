@@ -8,7 +8,7 @@ use Rattle.star_syntax.specs.declared.statement.Module.{Module}
 use Rattle.star_syntax.specs.declared.statement.Statement.{Statement}
 use Rattle.star_syntax.specs.CellParts.{CellParts}
 use Rattle.star_syntax.specs.Cells.{numbered}
-use Rattle.star_syntax.specs.Placement.{Sight, in_cell, sights, statement_sights}
+use Rattle.star_syntax.specs.Placement.{Finding, in_cell, findings, statement_findings}
 use Rattle.star_meaning.specs.declared.flow.Flow.{Flow}
 use Rattle.star_meaning.specs.declared.flow.Flow.TheVariants as flow
 use Rattle.star_meaning.specs.declared.ran.Ran.{Ran}
@@ -21,21 +21,21 @@ use Rattle.star_meaning.specs.Cells.{Shown, function_in, is_def, ran, ran_of, ru
 use Rattle.star_meaning.specs.Validity.{MachineState, after, number_or, numbered_from, ran_at, renamed, cell_of, cell_or_none, function_at, run_at, shown, numbered_setting}
 use Rattle.star_meaning.specs.Renaming.{AreGood, Names, state_as, world_as, outcome_as, SameSteps, SameSetting, SameCallee}
 use Rattle.star_meaning.specs.Growing.{Grown, IsKept, IsMade, reached}
-use Rattle.star_meaning.specs.Reading.{SightsIn, body_sights, sight_in}
+use Rattle.star_meaning.specs.Reading.{FindingsIn, body_findings, finding_in}
 use Rattle.star_meaning.proofs.Alone.{all_good, itself, leads_of, own}
-use Rattle.star_meaning.proofs.ReadingLemmas.{all_sights_in, halves}
+use Rattle.star_meaning.proofs.ReadingLemmas.{all_findings_in, halves}
 use Rattle.star_meaning.proofs.RenamedWorld.{same_going, same_next}
 use Rattle.star_meaning.proofs.RenamedStatements.{same_call_to, same_go_on, same_statement}
 
 module _ {C D : Type 0} (name : Names C D) (st : Setting C) (su : Setting D) (same_st : SameSetting name st su) where
   -- what statements of a cell show
-  abbrev pub cell_sights : List Statement → List Sight
-  cell_sights ss = flat_map (λ s. statement_sights s in_cell) ss
+  abbrev pub cell_findings : List Statement → List Finding
+  cell_findings ss = flat_map (λ s. statement_findings s in_cell) ss
 
-  pub same_statements_from : (c : Callee C) (d : Callee D) → SameCallee name c d → (n : ℕ) (ss : List Statement) → SightsIn name.reads (cell_sights ss) → SameSteps name (statements_from st c n ss) (statements_from su d n ss)
+  pub same_statements_from : (c : Callee C) (d : Callee D) → SameCallee name c d → (n : ℕ) (ss : List Statement) → FindingsIn name.reads (cell_findings ss) → SameSteps name (statements_from st c n ss) (statements_from su d n ss)
   same_statements_from c d h n [] r = same_going name flow.On
   same_statements_from c d h n (s ∷ ss) r =
-      let parts = halves (sight_in name.reads) (statement_sights s in_cell) (cell_sights ss) r in
+      let parts = halves (finding_in name.reads) (statement_findings s in_cell) (cell_findings ss) r in
       same_next name _ _ _ _ (same_statement name st su same_st c d h s in_cell parts.0 _ (Some n)) (same_go_on name _ _ (same_statements_from c d h (n + is_def s) ss parts.1))
 
   ran_as : (allowance : ℕ) (o : Outcome (World C) Fault Flow) → ran_of allowance (outcome_as (world_as name.to) o) ≡ ((ran_of allowance o).0, state_as name.to (ran_of allowance o).1)
@@ -43,8 +43,8 @@ module _ {C D : Type 0} (name : Names C D) (st : Setting C) (su : Setting D) (sa
   ran_as allowance (Failed e w) = refl
 
   -- a cell that reads no other inputs does the same in a state in which cells have other names and functions read no others
-  pub run_as : (tree : Module) → SightsIn name.reads (sights tree) → (allowance : ℕ) (s : State C) → AreGood name s → run su tree allowance (state_as name.to s) ≡ ((run st tree allowance s).0, state_as name.to (run st tree allowance s).1)
-  unfolding run sights
+  pub run_as : (tree : Module) → FindingsIn name.reads (findings tree) → (allowance : ℕ) (s : State C) → AreGood name s → run su tree allowance (state_as name.to s) ≡ ((run st tree allowance s).0, state_as name.to (run st tree allowance s).1)
+  unfolding run findings
   run_as tree r allowance s good =
       ap (ran_of allowance) (((same_statements_from (call_to st 32) (call_to su 32) (same_call_to name st su same_st 32) 0 tree.statements r).at (start s (allowance - 1)) good).holds)
       ∙ ran_as allowance (statements_from st (call_to st 32) 0 tree.statements (start s (allowance - 1)))
@@ -64,7 +64,7 @@ same_numbers program node inputs = record {
   here = refl;
   cell = refl;
   inputs = λ n r. refl;
-  bodies = λ c n def g e. all_sights_in (body_sights def.body);
+  bodies = λ c n def g e. all_findings_in (body_findings def.body);
 }
 
 -- what a cell does in a shown state is what it does by numbers, shown
@@ -72,7 +72,7 @@ pub ran_by_numbers : (program : Program) (m : MachineState) (node : ℕ) (inputs
     → ran (shown program m) (cell_of program node) inputs allowance ≡ ((run_at program m node inputs allowance).0, state_as (cell_of program) (run_at program m node inputs allowance).1)
 unfolding ran shown run_at
 ran_by_numbers program m node inputs allowance =
-    run_as (numbers_of program node) (numbered_setting program node inputs) (shown_setting (cell_of program node) inputs) (same_numbers program node inputs) (cell_of program node).«module» (all_sights_in (sights (cell_of program node).«module»)) allowance m.state (all_good m.state.objects)
+    run_as (numbers_of program node) (numbered_setting program node inputs) (shown_setting (cell_of program node) inputs) (same_numbers program node inputs) (cell_of program node).«module» (all_findings_in (findings (cell_of program node).«module»)) allowance m.state (all_good m.state.objects)
 
 -- ---- what stays of the objects
 
@@ -85,7 +85,7 @@ module _ {C : Type 0} (st : Setting C) where
   unfolding run
   run_grows tree allowance s =
       reached_as s.objects allowance (statements_from st (call_to st 32) 0 tree.statements (start s (allowance - 1)))
-      (leads_of st.cell _ _ (same_statements_from (own st.cell) st st (itself st) (call_to st 32) (call_to st 32) (same_call_to (own st.cell) st st (itself st) 32) 0 tree.statements (all_sights_in (cell_sights (own st.cell) st st (itself st) tree.statements)))
+      (leads_of st.cell _ _ (same_statements_from (own st.cell) st st (itself st) (call_to st 32) (call_to st 32) (same_call_to (own st.cell) st st (itself st) 32) 0 tree.statements (all_findings_in (cell_findings (own st.cell) st st (itself st) tree.statements)))
       (start s (allowance - 1))).later.grown
 
 -- in a shown state

@@ -383,8 +383,8 @@ module _ {C D : Type 0} (name : Names C D) (st : Setting C) (su : Setting D) (sa
   upper y = map-Expr Expr (Meant D) (meant su d) (bare y)
 
   -- what the rules of placement see of it
-  abbrev sights : Expr-F Known → Expr-F Seen
-  sights y = map-Expr Expr Seen seen (bare y)
+  abbrev seen_of : Expr-F Known → Expr-F Seen
+  seen_of y = map-Expr Expr Seen seen (bare y)
 
   links_of : {X : Type 0} → Expr-F X → List (Link X)
   links_of (Expr-F.Chain level first xs) = xs
@@ -410,63 +410,63 @@ module _ {C D : Type 0} (name : Names C D) (st : Setting C) (su : Setting D) (sa
   abbrev link_uses : List (Link Seen) → List Use
   link_uses xs = flat_map (λ link. link.operand.uses) xs
 
-  links_known : (level : ChainLevel) (e : Known) (xs : List (Link Known)) → Allowed (link_uses (links_of (sights (Expr-F.Chain level e xs))))
+  links_known : (level : ChainLevel) (e : Known) (xs : List (Link Known)) → Allowed (link_uses (links_of (seen_of (Expr-F.Chain level e xs))))
       → Each AlikeLink (links_of (lower (Expr-F.Chain level e xs))) (links_of (upper (Expr-F.Chain level e xs)))
   unfolding links_of
   links_known level e [] h = tt
   links_known level e (x ∷ xs) h =
-      let parts = split (seen x.operand.0).uses (link_uses (links_of (sights (Expr-F.Chain level e xs)))) h in (record { op_is = refl; operand_is = x.operand.1 parts.0 }, links_known level e xs parts.1)
+      let parts = split (seen x.operand.0).uses (link_uses (links_of (seen_of (Expr-F.Chain level e xs)))) h in (record { op_is = refl; operand_is = x.operand.1 parts.0 }, links_known level e xs parts.1)
 
   abbrev arm_uses : List (Arm Seen) → List Use
   arm_uses xs = flat_map (λ arm. arm.value.uses ++ arm.condition.uses) xs
 
-  arms_known : (e : Known) (xs : List (Arm Known)) → Allowed (arm_uses (arms_of (sights (Expr-F.Conditional xs e)))) → Each AlikeArm (arms_of (lower (Expr-F.Conditional xs e))) (arms_of (upper (Expr-F.Conditional xs e)))
+  arms_known : (e : Known) (xs : List (Arm Known)) → Allowed (arm_uses (arms_of (seen_of (Expr-F.Conditional xs e)))) → Each AlikeArm (arms_of (lower (Expr-F.Conditional xs e))) (arms_of (upper (Expr-F.Conditional xs e)))
   unfolding arms_of
   arms_known e [] h = tt
   arms_known e (x ∷ xs) h =
-      let parts = split ((seen x.value.0).uses ++ (seen x.condition.0).uses) (arm_uses (arms_of (sights (Expr-F.Conditional xs e)))) h in
+      let parts = split ((seen x.value.0).uses ++ (seen x.condition.0).uses) (arm_uses (arms_of (seen_of (Expr-F.Conditional xs e)))) h in
       let arm = split (seen x.value.0).uses (seen x.condition.0).uses parts.0 in (record { value_is = x.value.1 arm.0; condition_is = x.condition.1 arm.1 }, arms_known e xs parts.1)
 
   abbrev pair_uses : List (Pair Seen) → List Use
   pair_uses xs = flat_map (λ pair. pair.key.uses ++ pair.value.uses) xs
 
-  pairs_known : (b : Bool) (xs : List (Pair Known)) → Allowed (pair_uses (pairs_in (sights (Expr-F.Dict xs b)))) → Each (AlikePair name) (pairs_in (lower (Expr-F.Dict xs b))) (pairs_in (upper (Expr-F.Dict xs b)))
+  pairs_known : (b : Bool) (xs : List (Pair Known)) → Allowed (pair_uses (pairs_in (seen_of (Expr-F.Dict xs b)))) → Each (AlikePair name) (pairs_in (lower (Expr-F.Dict xs b))) (pairs_in (upper (Expr-F.Dict xs b)))
   unfolding pairs_in
   pairs_known b [] h = tt
   pairs_known b (x ∷ xs) h =
-      let parts = split ((seen x.key.0).uses ++ (seen x.value.0).uses) (pair_uses (pairs_in (sights (Expr-F.Dict xs b)))) h in
+      let parts = split ((seen x.key.0).uses ++ (seen x.value.0).uses) (pair_uses (pairs_in (seen_of (Expr-F.Dict xs b)))) h in
       let pair = split (seen x.key.0).uses (seen x.value.0).uses parts.0 in (record { key_is = x.key.1 pair.0; value_is = x.value.1 pair.1 }, pairs_known b xs parts.1)
 
   abbrev clauses_uses : List (Clause Seen) → List Use
   clauses_uses xs = flat_map clause_uses xs
 
-  list_clauses_known : (e : Known) (xs : List (Clause Known)) → Allowed (clauses_uses (clauses_of (sights (Expr-F.ListOver e xs)))) → Each (AlikeClause name) (clauses_of (lower (Expr-F.ListOver e xs))) (clauses_of (upper (Expr-F.ListOver e xs)))
+  list_clauses_known : (e : Known) (xs : List (Clause Known)) → Allowed (clauses_uses (clauses_of (seen_of (Expr-F.ListOver e xs)))) → Each (AlikeClause name) (clauses_of (lower (Expr-F.ListOver e xs))) (clauses_of (upper (Expr-F.ListOver e xs)))
   unfolding clauses_of
   list_clauses_known e [] h = tt
   list_clauses_known e (clause.For targets over ∷ xs) h =
-      let parts = split (all_uses (map seen (map (λ o. o.0) targets)) ++ (seen over.0).uses) (clauses_uses (clauses_of (sights (Expr-F.ListOver e xs)))) h in
+      let parts = split (all_uses (map seen (map (λ o. o.0) targets)) ++ (seen over.0).uses) (clauses_uses (clauses_of (seen_of (Expr-F.ListOver e xs)))) h in
       let for = split (all_uses (map seen (map (λ o. o.0) targets))) (seen over.0).uses parts.0 in ((all_known targets for.0, over.1 for.1), list_clauses_known e xs parts.1)
   list_clauses_known e (clause.If condition ∷ xs) h =
-      let parts = split (seen condition.0).uses (clauses_uses (clauses_of (sights (Expr-F.ListOver e xs)))) h in (condition.1 parts.0, list_clauses_known e xs parts.1)
+      let parts = split (seen condition.0).uses (clauses_uses (clauses_of (seen_of (Expr-F.ListOver e xs)))) h in (condition.1 parts.0, list_clauses_known e xs parts.1)
 
-  dict_clauses_known : (k v : Known) (xs : List (Clause Known)) → Allowed (clauses_uses (clauses_of (sights (Expr-F.DictOver k v xs)))) → Each (AlikeClause name) (clauses_of (lower (Expr-F.DictOver k v xs))) (clauses_of (upper (Expr-F.DictOver k v xs)))
+  dict_clauses_known : (k v : Known) (xs : List (Clause Known)) → Allowed (clauses_uses (clauses_of (seen_of (Expr-F.DictOver k v xs)))) → Each (AlikeClause name) (clauses_of (lower (Expr-F.DictOver k v xs))) (clauses_of (upper (Expr-F.DictOver k v xs)))
   unfolding clauses_of
   dict_clauses_known k v [] h = tt
   dict_clauses_known k v (clause.For targets over ∷ xs) h =
-      let parts = split (all_uses (map seen (map (λ o. o.0) targets)) ++ (seen over.0).uses) (clauses_uses (clauses_of (sights (Expr-F.DictOver k v xs)))) h in
+      let parts = split (all_uses (map seen (map (λ o. o.0) targets)) ++ (seen over.0).uses) (clauses_uses (clauses_of (seen_of (Expr-F.DictOver k v xs)))) h in
       let for = split (all_uses (map seen (map (λ o. o.0) targets))) (seen over.0).uses parts.0 in ((all_known targets for.0, over.1 for.1), dict_clauses_known k v xs parts.1)
   dict_clauses_known k v (clause.If condition ∷ xs) h =
-      let parts = split (seen condition.0).uses (clauses_uses (clauses_of (sights (Expr-F.DictOver k v xs)))) h in (condition.1 parts.0, dict_clauses_known k v xs parts.1)
+      let parts = split (seen condition.0).uses (clauses_uses (clauses_of (seen_of (Expr-F.DictOver k v xs)))) h in (condition.1 parts.0, dict_clauses_known k v xs parts.1)
 
   abbrev suffixes_uses : List (Suffix Seen) → List Use
   suffixes_uses xs = flat_map suffix_uses xs
 
   -- what the bounds of a slice read
   abbrev AllowedSlice : Known → Option Known → Option Known → Option (Option Known) → List (Suffix Known) → Type 0
-  AllowedSlice e i j k xs = Allowed (suffixes_uses (suffixes_of (sights (Expr-F.Primary e (suffix.Slice i j k ∷ xs)))))
+  AllowedSlice e i j k xs = Allowed (suffixes_uses (suffixes_of (seen_of (Expr-F.Primary e (suffix.Slice i j k ∷ xs)))))
 
   abbrev more_uses : Known → List (Suffix Known) → List Use
-  more_uses e xs = suffixes_uses (suffixes_of (sights (Expr-F.Primary e xs)))
+  more_uses e xs = suffixes_uses (suffixes_of (seen_of (Expr-F.Primary e xs)))
 
   abbrev KnownSlice : Known → Option Known → Option Known → Option (Option Known) → List (Suffix Known) → Type 0
   KnownSlice e i j k xs = Each AlikeSuffix (suffixes_of (lower (Expr-F.Primary e (suffix.Slice i j k ∷ xs)))) (suffixes_of (upper (Expr-F.Primary e (suffix.Slice i j k ∷ xs))))
@@ -513,19 +513,19 @@ module _ {C D : Type 0} (name : Names C D) (st : Setting C) (su : Setting D) (sa
   abbrev method_layer : Known → List ℕ → List Known → Bool → List (Named Known) → List (Suffix Known) → Expr-F Known
   method_layer e m ps b ns xs = Expr-F.Primary e (suffix.Method m (record { positional = ps; named = ns; comma = b }) ∷ xs)
 
-  call_named : (e : Known) (ps : List Known) (b : Bool) (ns : List (Named Known)) (xs : List (Suffix Known)) → Allowed (named_uses (named_of (sights (call_layer e ps b ns xs))))
+  call_named : (e : Known) (ps : List Known) (b : Bool) (ns : List (Named Known)) (xs : List (Suffix Known)) → Allowed (named_uses (named_of (seen_of (call_layer e ps b ns xs))))
       → Each (AlikeNamed name) (named_of (lower (call_layer e ps b ns xs))) (named_of (upper (call_layer e ps b ns xs)))
   unfolding named_of
   call_named e ps b [] xs h = tt
   call_named e ps b (n ∷ ns) xs h =
-      let parts = split (seen n.value.0).uses (named_uses (named_of (sights (call_layer e ps b ns xs)))) h in (record { name_is = refl; value_is = n.value.1 parts.0 }, call_named e ps b ns xs parts.1)
+      let parts = split (seen n.value.0).uses (named_uses (named_of (seen_of (call_layer e ps b ns xs)))) h in (record { name_is = refl; value_is = n.value.1 parts.0 }, call_named e ps b ns xs parts.1)
 
-  method_named : (e : Known) (m : List ℕ) (ps : List Known) (b : Bool) (ns : List (Named Known)) (xs : List (Suffix Known)) → Allowed (named_uses (named_of (sights (method_layer e m ps b ns xs))))
+  method_named : (e : Known) (m : List ℕ) (ps : List Known) (b : Bool) (ns : List (Named Known)) (xs : List (Suffix Known)) → Allowed (named_uses (named_of (seen_of (method_layer e m ps b ns xs))))
       → Each (AlikeNamed name) (named_of (lower (method_layer e m ps b ns xs))) (named_of (upper (method_layer e m ps b ns xs)))
   unfolding named_of
   method_named e m ps b [] xs h = tt
   method_named e m ps b (n ∷ ns) xs h =
-      let parts = split (seen n.value.0).uses (named_uses (named_of (sights (method_layer e m ps b ns xs)))) h in (record { name_is = refl; value_is = n.value.1 parts.0 }, method_named e m ps b ns xs parts.1)
+      let parts = split (seen n.value.0).uses (named_uses (named_of (seen_of (method_layer e m ps b ns xs)))) h in (record { name_is = refl; value_is = n.value.1 parts.0 }, method_named e m ps b ns xs parts.1)
 
   suffixes_known : (e : Known) (xs : List (Suffix Known)) → Allowed (more_uses e xs) → Each AlikeSuffix (suffixes_of (lower (Expr-F.Primary e xs))) (suffixes_of (upper (Expr-F.Primary e xs)))
   unfolding suffixes_of named_of
@@ -533,12 +533,12 @@ module _ {C D : Type 0} (name : Names C D) (st : Setting C) (su : Setting D) (sa
   suffixes_known e (suffix.Index at ∷ xs) h = let parts = split (seen at.0).uses (more_uses e xs) h in (at.1 parts.0, suffixes_known e xs parts.1)
   suffixes_known e (suffix.Slice i j k ∷ xs) h = slice_known e i j k xs h (suffixes_known e xs)
   suffixes_known e (suffix.Call given ∷ xs) h =
-      let named = named_uses (named_of (sights (call_layer e given.positional given.comma given.named xs))) in
+      let named = named_uses (named_of (seen_of (call_layer e given.positional given.comma given.named xs))) in
       let parts = split (all_uses (map seen (map (λ o. o.0) given.positional)) ++ named) (more_uses e xs) h in
       let arguments = split (all_uses (map seen (map (λ o. o.0) given.positional))) named parts.0 in
       ((all_known given.positional arguments.0, call_named e given.positional given.comma given.named xs arguments.1, refl), suffixes_known e xs parts.1)
   suffixes_known e (suffix.Method m given ∷ xs) h =
-      let named = named_uses (named_of (sights (method_layer e m given.positional given.comma given.named xs))) in
+      let named = named_uses (named_of (seen_of (method_layer e m given.positional given.comma given.named xs))) in
       let parts = split (all_uses (map seen (map (λ o. o.0) given.positional)) ++ named) (more_uses e xs) h in
       let arguments = split (all_uses (map seen (map (λ o. o.0) given.positional))) named parts.0 in
       ((refl, (all_known given.positional arguments.0, method_named e m given.positional given.comma given.named xs arguments.1, refl)), suffixes_known e xs parts.1)
@@ -556,18 +556,18 @@ module _ {C D : Type 0} (name : Names C D) (st : Setting C) (su : Setting D) (sa
   literals_are (e ∷ o ∷ es) ns os b h = refl
 
   named_long : (e : Known) (ps : List Known) (b : Bool) (ns : List (Named Known)) (xs : List (Suffix Known))
-      → length (named_of (lower (call_layer e ps b ns xs))) ≡ length (named_of (sights (call_layer e ps b ns xs)))
+      → length (named_of (lower (call_layer e ps b ns xs))) ≡ length (named_of (seen_of (call_layer e ps b ns xs)))
   unfolding named_of
   named_long e ps b [] xs = refl
   named_long e ps b (n ∷ ns) xs = ap suc (named_long e ps b ns xs)
 
-  first_is : (e : Known) (xs : List (Suffix Known)) → first_literal (λ m. m.literal) (suffixes_of (lower (Expr-F.Primary e xs))) ≡ first_literal (λ s. s.literal) (suffixes_of (sights (Expr-F.Primary e xs)))
+  first_is : (e : Known) (xs : List (Suffix Known)) → first_literal (λ m. m.literal) (suffixes_of (lower (Expr-F.Primary e xs))) ≡ first_literal (λ s. s.literal) (suffixes_of (seen_of (Expr-F.Primary e xs)))
   unfolding suffixes_of named_of
   first_is e [] = refl
   first_is e (suffix.Index at ∷ xs) = refl
   first_is e (suffix.Slice i j k ∷ xs) = refl
   first_is e (suffix.Call given ∷ xs) =
-      literals_are given.positional (named_of (lower (call_layer e given.positional given.comma given.named xs))) (named_of (sights (call_layer e given.positional given.comma given.named xs))) given.comma
+      literals_are given.positional (named_of (lower (call_layer e given.positional given.comma given.named xs))) (named_of (seen_of (call_layer e given.positional given.comma given.named xs))) given.comma
       (named_long e given.positional given.comma given.named xs)
   first_is e (suffix.Method m given ∷ xs) = refl
 
@@ -575,16 +575,16 @@ module _ {C D : Type 0} (name : Names C D) (st : Setting C) (su : Setting D) (sa
   named_if true xs = refl
   named_if false xs = refl
 
-  front_reads : (e : Known) (xs : List (Suffix Known)) → Allowed (head_uses (seen e.0) (first_literal (λ s. s.literal) (suffixes_of (sights (Expr-F.Primary e xs)))))
+  front_reads : (e : Known) (xs : List (Suffix Known)) → Allowed (head_uses (seen e.0) (first_literal (λ s. s.literal) (suffixes_of (seen_of (Expr-F.Primary e xs)))))
       → FrontReads (meant st c e.0) (suffixes_of (lower (Expr-F.Primary e xs)))
   front_reads e xs h =
       subst (MayRead name.reads)
       (sym (named_if (meant st c e.0).is_input (suffixes_of (lower (Expr-F.Primary e xs)))
       ∙ ap (λ b. if_input name.reads b (first_literal (λ m. m.literal) (suffixes_of (lower (Expr-F.Primary e xs))))) (sees st c e.0).input
       ∙ ap (λ o. if_input name.reads (seen e.0).names_input o) (first_is e xs)))
-      (head_reads name.reads (seen e.0) (first_literal (λ s. s.literal) (suffixes_of (sights (Expr-F.Primary e xs)))) h)
+      (head_reads name.reads (seen e.0) (first_literal (λ s. s.literal) (suffixes_of (seen_of (Expr-F.Primary e xs)))) h)
 
-  layer_same : (y : Expr-F Known) → Allowed (layer_seen (sights y)).uses → Forms (lower y) (upper y)
+  layer_same : (y : Expr-F Known) → Allowed (layer_seen (seen_of y)).uses → Forms (lower y) (upper y)
   unfolding links_of arms_of suffixes_of pairs_in clauses_of
   layer_same (Expr-F.Name n) h = name_form n
   layer_same (Expr-F.Int z) h = record { value = constant (value.Int z); store = λ v. never; update = λ f g h. never; names = refl; is_input = refl; literal = refl }
@@ -596,22 +596,22 @@ module _ {C D : Type 0} (name : Names C D) (st : Setting C) (su : Setting D) (sa
   layer_same (Expr-F.Tuple es b) h = tuple_form _ _ b (all_known es h)
   layer_same (Expr-F.List es b) h = list_form _ _ b (all_known es h)
   layer_same (Expr-F.ListOver e xs) h =
-      let parts = split (seen e.0).uses (clauses_uses (clauses_of (sights (Expr-F.ListOver e xs)))) h in list_over_form _ _ _ _ (e.1 parts.0) (list_clauses_known e xs parts.1)
+      let parts = split (seen e.0).uses (clauses_uses (clauses_of (seen_of (Expr-F.ListOver e xs)))) h in list_over_form _ _ _ _ (e.1 parts.0) (list_clauses_known e xs parts.1)
   layer_same (Expr-F.Dict xs b) h = dict_form _ _ b (pairs_known b xs h)
   layer_same (Expr-F.DictOver k v xs) h =
-      let parts = split (seen k.0).uses ((seen v.0).uses ++ clauses_uses (clauses_of (sights (Expr-F.DictOver k v xs)))) h in
-      let rest = split (seen v.0).uses (clauses_uses (clauses_of (sights (Expr-F.DictOver k v xs)))) parts.1 in dict_over_form _ _ _ _ _ _ (k.1 parts.0) (v.1 rest.0) (dict_clauses_known k v xs rest.1)
+      let parts = split (seen k.0).uses ((seen v.0).uses ++ clauses_uses (clauses_of (seen_of (Expr-F.DictOver k v xs)))) h in
+      let rest = split (seen v.0).uses (clauses_uses (clauses_of (seen_of (Expr-F.DictOver k v xs)))) parts.1 in dict_over_form _ _ _ _ _ _ (k.1 parts.0) (v.1 rest.0) (dict_clauses_known k v xs rest.1)
   layer_same (Expr-F.Primary e xs) h =
-      let first = first_literal (λ s. s.literal) (suffixes_of (sights (Expr-F.Primary e xs))) in
+      let first = first_literal (λ s. s.literal) (suffixes_of (seen_of (Expr-F.Primary e xs))) in
       let parts = split (head_uses (seen e.0) first) (more_uses e xs) h in
       primary_form _ _ _ _ (e.1 (head_part name.reads (seen e.0) first (sees st c e.0).uses parts.0)) (suffixes_known e xs parts.1) (front_reads e xs parts.0)
   layer_same (Expr-F.Signed ss e) h = signed_form ss _ _ (e.1 h)
   layer_same (Expr-F.Chain level e xs) h =
-      let parts = split (seen e.0).uses (link_uses (links_of (sights (Expr-F.Chain level e xs)))) h in chain_form level _ _ _ _ (e.1 parts.0) (links_known level e xs parts.1)
+      let parts = split (seen e.0).uses (link_uses (links_of (seen_of (Expr-F.Chain level e xs)))) h in chain_form level _ _ _ _ (e.1 parts.0) (links_known level e xs parts.1)
   layer_same (Expr-F.Compare a o b) h = let parts = split (seen a.0).uses (seen b.0).uses h in compare_form _ _ _ _ o (a.1 parts.0) (b.1 parts.1)
   layer_same (Expr-F.Not count e) h = not_form count _ _ (e.1 h)
   layer_same (Expr-F.Conditional xs e) h =
-      let parts = split (arm_uses (arms_of (sights (Expr-F.Conditional xs e)))) (seen e.0).uses h in conditional_form _ _ _ _ (arms_known e xs parts.0) (e.1 parts.1)
+      let parts = split (arm_uses (arms_of (seen_of (Expr-F.Conditional xs e)))) (seen e.0).uses h in conditional_form _ _ _ _ (arms_known e xs parts.0) (e.1 parts.1)
 
   rolled_same : (x : Expr-F Expr) → Forms (map-Expr Expr (Meant C) (meant st c) x) (map-Expr Expr (Meant D) (meant su d) x) → SameMeant name (meant st c (roll-Expr x)) (meant su d (roll-Expr x))
   unfolding meant

@@ -4,7 +4,7 @@ use Rattle.std.specs.Prelude.{Option, Some, None, option_map, slice_get, ◌&&�
 use Rattle.std.specs.FinSet as set
 use Rattle.std.specs.List.{flat_map}
 use Rattle.chex_base.specs.TextOrder.{text_cmp}
-use Rattle.star_syntax.specs.Placement.{MisplacedReturn, NestedDef, Place, RepeatedParameter, Shows, Sight, all_sights, block_sights, branch_sights, default_parameter, else_sights, expr_sights, header_sights, in_body, in_branch, in_turn, kind_sights, layer_sights, line_sights, name_sights, parameter_sights, parameters, small_sights, statement_sights, unless, where_broken}
+use Rattle.star_syntax.specs.Placement.{MisplacedReturn, NestedDef, Place, RepeatedParameter, Shows, Finding, all_findings, block_findings, branch_findings, default_parameter, else_findings, expr_findings, header_findings, in_body, in_branch, in_turn, kind_findings, layer_findings, line_findings, name_findings, parameter_findings, parameters, small_findings, statement_findings, unless, where_broken}
 use Rattle.star_syntax.specs.declared.expression.Expr.{Expr}
 use Rattle.star_syntax.specs.declared.expression.Named.{Named}
 use Rattle.star_syntax.specs.declared.operator.BinaryOp.{BinaryOp}
@@ -35,7 +35,7 @@ use Rattle.star_meaning.specs.Statements.{Doing, Filled, after_turn, all_meant, 
 use Rattle.star_meaning.specs.Validity.{renamed}
 use Rattle.star_meaning.specs.Renaming.{Names, under, world_as, outcome_as, SameSteps, SameSetting, SameCallee, SameMeant}
 use Rattle.star_meaning.specs.Growing.{Leads}
-use Rattle.star_meaning.specs.Reading.{SightsIn, body_sights, sight_in}
+use Rattle.star_meaning.specs.Reading.{FindingsIn, body_findings, finding_in}
 use Rattle.star_meaning.proofs.GrownLemmas.{good_found, good_if}
 use Rattle.star_meaning.proofs.ReadingLemmas.{expr_part, halves}
 use Rattle.star_meaning.proofs.Renamed.{get_same}
@@ -99,20 +99,20 @@ module _ {C D : Type 0} (name : Names C D) where
 
   module _ (st : Setting C) (su : Setting D) (same_st : SameSetting name st su) (c : Callee C) (d : Callee D) (same_callee : SameCallee name c d) where
     -- what statements show, where they read no other inputs
-    abbrev pub Allowed : List Sight → Type 0
-    Allowed sights = SightsIn name.reads sights
+    abbrev pub Allowed : List Finding → Type 0
+    Allowed findings = FindingsIn name.reads findings
 
-    split : (xs ys : List Sight) → Allowed (xs ++ ys) → Allowed xs × Allowed ys
-    split xs ys h = halves (sight_in name.reads) xs ys h
+    split : (xs ys : List Finding) → Allowed (xs ++ ys) → Allowed xs × Allowed ys
+    split xs ys h = halves (finding_in name.reads) xs ys h
 
-    same_of : (line : ℕ) (e : Expr) → Allowed (expr_sights line e) → SameMeant name (meant st c e) (meant su d e)
+    same_of : (line : ℕ) (e : Expr) → Allowed (expr_findings line e) → SameMeant name (meant st c e) (meant su d e)
     same_of line e h = same_meant name st su same_st c d same_callee e (expr_part name.reads line e h)
 
-    pub each_meant : (line : ℕ) (es : List Expr) → Allowed (all_sights line es) → Each (Alike name) (all_meant st c es) (all_meant su d es)
+    pub each_meant : (line : ℕ) (es : List Expr) → Allowed (all_findings line es) → Each (Alike name) (all_meant st c es) (all_meant su d es)
     each_meant line [] h = tt
-    each_meant line (e ∷ es) h = let parts = split (expr_sights line e) (all_sights line es) h in (same_of line e parts.0, each_meant line es parts.1)
+    each_meant line (e ∷ es) h = let parts = split (expr_findings line e) (all_findings line es) h in (same_of line e parts.0, each_meant line es parts.1)
 
-    pub same_tests : (line : ℕ) (es : List Expr) → Allowed (all_sights line es) → SameSteps name (tests_value (all_meant st c es)) (tests_value (all_meant su d es))
+    pub same_tests : (line : ℕ) (es : List Expr) → Allowed (all_findings line es) → SameSteps name (tests_value (all_meant st c es)) (tests_value (all_meant su d es))
     same_tests line es h = same_tests_value name _ _ (each_meant line es h)
 
     -- ---- small statements
@@ -138,7 +138,7 @@ module _ {C D : Type 0} (name : Names C D) where
     same_echo_if true v = same_echo_at (out-Value v) v
     same_echo_if false v = same_going name tt
 
-    pub same_returned : (line : ℕ) (es : List Expr) → Allowed (all_sights line es) → SameSteps name (returned st c (all_meant st c es)) (returned su d (all_meant su d es))
+    pub same_returned : (line : ℕ) (es : List Expr) → Allowed (all_findings line es) → SameSteps name (returned st c (all_meant st c es)) (returned su d (all_meant su d es))
     same_returned line [] h = same_going name value.None
     same_returned line (e ∷ es) h = same_tests line (e ∷ es) h
 
@@ -151,71 +151,71 @@ module _ {C D : Type 0} (name : Names C D) where
     same_then_on : {A : Type 0} (p : Work C A) (q : Work D A) → SameSteps name p q → SameSteps name (then_on st c p) (then_on su d q)
     same_then_on p q h = same_next name _ _ _ _ h (λ _. same_going name flow.On)
 
-    pub same_kind_of : (place : Place) (line : ℕ) (last : Bool) (k : SmallKind) → Allowed (kind_sights place line k) → SameSteps name (kind_of st c last k) (kind_of su d last k)
+    pub same_kind_of : (place : Place) (line : ℕ) (last : Bool) (k : SmallKind) → Allowed (kind_findings place line k) → SameSteps name (kind_of st c last k) (kind_of su d last k)
     unfolding kind_of
     same_kind_of place line last (small.Return tests) h =
-        let parts = split (unless place.in_function MisplacedReturn line) (all_sights line tests) h in same_next name _ _ _ _ (same_returned line tests parts.1) (λ v. same_going name (flow.Return v))
+        let parts = split (unless place.in_function MisplacedReturn line) (all_findings line tests) h in same_next name _ _ _ _ (same_returned line tests parts.1) (λ v. same_going name (flow.Return v))
     same_kind_of place line last small.Break h = same_going name flow.Break
     same_kind_of place line last small.Continue h = same_going name flow.Continue
     same_kind_of place line last small.Pass h = same_going name flow.On
     same_kind_of place line last (small.Assign targets tests) h =
-        let parts = split (all_sights line targets) (all_sights line tests) h in same_then_on _ _ (same_next name _ _ _ _ (same_tests line tests parts.1) (same_store_in name _ _ (each_meant line targets parts.0)))
+        let parts = split (all_findings line targets) (all_findings line tests) h in same_then_on _ _ (same_next name _ _ _ _ (same_tests line tests parts.1) (same_store_in name _ _ (each_meant line targets parts.0)))
     same_kind_of place line last (small.Augmented target o tests) h =
-        let parts = split (expr_sights line target) (all_sights line tests) h in
+        let parts = split (expr_findings line target) (all_findings line tests) h in
         same_then_on _ _ ((same_of line target parts.0).update _ _ (λ old. same_next name _ _ _ _ (same_tests line tests parts.1) (same_operator o old)))
     same_kind_of place line last (small.Tests tests) h = same_then_on _ _ (same_next name _ _ _ _ (same_tests line tests h) (same_echo_if last))
 
-    pub same_small_of : (place : Place) (last : Bool) (s : Small) → Allowed (small_sights place s) → SameSteps name (small_of st c last s) (small_of su d last s)
+    pub same_small_of : (place : Place) (last : Bool) (s : Small) → Allowed (small_findings place s) → SameSteps name (small_of st c last s) (small_of su d last s)
     unfolding small_of
     same_small_of place last s h = same_located name s.line _ _ (same_next name _ _ _ _ (same_charging name 1) (λ _. same_kind_of place s.line last s.kind h))
 
-    same_smalls : (place : Place) (last : Bool) (smalls : List Small) → Allowed (flat_map (small_sights place) smalls) → SameSteps name (in_sequence (small_of st c) last smalls) (in_sequence (small_of su d) last smalls)
+    same_smalls : (place : Place) (last : Bool) (smalls : List Small) → Allowed (flat_map (small_findings place) smalls) → SameSteps name (in_sequence (small_of st c) last smalls) (in_sequence (small_of su d) last smalls)
     same_smalls place last [] h = same_going name flow.On
     same_smalls place last (s ∷ smalls) h =
-        let parts = split (small_sights place s) (flat_map (small_sights place) smalls) h in
+        let parts = split (small_findings place s) (flat_map (small_findings place) smalls) h in
         same_next name _ _ _ _ (same_small_of place (last && is_empty smalls) s parts.0) (same_go_on _ _ (same_smalls place last smalls parts.1))
 
-    pub same_line_of : (place : Place) (last : Bool) (line : Line) → Allowed (line_sights place line) → SameSteps name (line_of st c last line) (line_of su d last line)
-    unfolding line_sights
+    pub same_line_of : (place : Place) (last : Bool) (line : Line) → Allowed (line_findings place line) → SameSteps name (line_of st c last line) (line_of su d last line)
+    unfolding line_findings
     same_line_of place last line h = same_smalls place last line.smalls h
 
     -- ---- statements with blocks
 
-    pub same_condition : (at : ℕ) (e : Expr) → Allowed (expr_sights at e) → SameSteps name (condition_of st c at e) (condition_of su d at e)
+    pub same_condition : (at : ℕ) (e : Expr) → Allowed (expr_findings at e) → SameSteps name (condition_of st c at e) (condition_of su d at e)
     same_condition at e h = same_located name at _ _ (same_next name _ _ _ _ (same_of at e h).value (same_truth name))
 
-    pub same_iterated : (at : ℕ) (over : List Expr) → Allowed (all_sights at over) → SameSteps name (iterated st c over) (iterated su d over)
+    pub same_iterated : (at : ℕ) (over : List Expr) → Allowed (all_findings at over) → SameSteps name (iterated st c over) (iterated su d over)
     same_iterated at over h =
         same_next name _ _ _ _ (same_tests at over h) (λ v. same_next name _ _ _ _ (same_acting name _ _ (λ locked. same_items_of (under name locked) v)) (λ items. same_going name (v, items)))
 
-    pub same_repeated : (at : ℕ) (targets : List Expr) → Allowed (all_sights at targets) → (p : Course C Flow) (q : Course D Flow) → SameSteps name p q → (over : Value × List Value)
+    pub same_repeated : (at : ℕ) (targets : List Expr) → Allowed (all_findings at targets) → (p : Course C Flow) (q : Course D Flow) → SameSteps name p q → (over : Value × List Value)
         → SameSteps name (repeated st c at targets p over) (repeated su d at targets q over)
     unfolding repeated
     same_repeated at targets r p q h over =
         same_locking name (lock_of over.0) _ _ (same_for_turns _ _ p q (λ x. same_located name at _ _ (same_next_item name _ _ (each_meant at targets r) x)) h over.1)
 
-    defaults_from : (at : ℕ) (before : set.FinSet text_cmp) (ns : List (Named Expr)) → Allowed (parameter_sights at before (map default_parameter ns))
+    defaults_from : (at : ℕ) (before : set.FinSet text_cmp) (ns : List (Named Expr)) → Allowed (parameter_findings at before (map default_parameter ns))
         → Each (Alike name) (map (λ n. meant st c n.value) ns) (map (λ n. meant su d n.value) ns)
     defaults_from at before [] h = tt
     defaults_from at before (n ∷ ns) h =
-        let more = parameter_sights at (set.insert before n.name) (map default_parameter ns) in
+        let more = parameter_findings at (set.insert before n.name) (map default_parameter ns) in
         let repeated = where_broken (set.contains before n.name) RepeatedParameter at in
-        let named = split (name_sights at n.name) (repeated ++ (expr_sights at n.value ++ more)) h in
-        let broken = split repeated (expr_sights at n.value ++ more) named.1 in
-        let rest = split (expr_sights at n.value) more broken.1 in (same_of at n.value rest.0, defaults_from at (set.insert before n.name) ns rest.1)
+        let named = split (name_findings at n.name) (repeated ++ (expr_findings at n.value ++ more)) h in
+        let broken = split repeated (expr_findings at n.value ++ more) named.1 in
+        let rest = split (expr_findings at n.value) more broken.1 in (same_of at n.value rest.0, defaults_from at (set.insert before n.name) ns rest.1)
 
-    defaults_after : (at : ℕ) (before : set.FinSet text_cmp) (required : List (List ℕ)) (ns : List (Named Expr)) → Allowed (parameter_sights at before (parameters required ns))
+    defaults_after : (at : ℕ) (before : set.FinSet text_cmp) (required : List (List ℕ)) (ns : List (Named Expr)) → Allowed (parameter_findings at before (parameters required ns))
         → Each (Alike name) (map (λ n. meant st c n.value) ns) (map (λ n. meant su d n.value) ns)
     defaults_after at before [] ns h = defaults_from at before ns h
     defaults_after at before (n ∷ required) ns h =
-        let more = parameter_sights at (set.insert before n) (parameters required ns) in
+        let more = parameter_findings at (set.insert before n) (parameters required ns) in
         let repeated = where_broken (set.contains before n) RepeatedParameter at in
-        let named = split (name_sights at n) (repeated ++ more) h in
+        let named = split (name_findings at n) (repeated ++ more) h in
         let broken = split repeated more named.1 in defaults_after at (set.insert before n) required ns broken.1
 
-    defaults_same : (at : ℕ) (n : List ℕ) (required : List (List ℕ)) (ns : List (Named Expr)) → Allowed (header_sights at n (parameters required ns))
+    defaults_same : (at : ℕ) (n : List ℕ) (required : List (List ℕ)) (ns : List (Named Expr)) → Allowed (header_findings at n (parameters required ns))
         → Each (Alike name) (map (λ o. meant st c o.value) ns) (map (λ o. meant su d o.value) ns)
-    defaults_same at n required ns h = defaults_after at set.empty required ns (split (name_sights at n) (parameter_sights at set.empty (parameters required ns)) h).1
+    defaults_same at n required ns h = defaults_after at set.empty required ns (split (name_findings at n) (parameter_findings at set.empty (parameters required ns)) h).1
 
     abbrev defined_in : {X : Type 0} → Setting X → Callee X → X → List ℕ → List (Named Expr) → ℕ → Work X (Unit {0})
     defined_in sx x cell n ns number = values (map (λ o. meant sx x o.value) ns) >>= (λ vs. acting (new_function cell number vs) >>= bind n)
@@ -223,7 +223,7 @@ module _ {C D : Type 0} (name : Names C D) where
     abbrev defined_by : {X : Type 0} → Setting X → Callee X → List ℕ → List (Named Expr) → ℕ → Work X (Unit {0})
     defined_by sx x n ns number = values (map (λ o. meant sx x o.value) ns) >>= (λ vs. acting (new_function sx.cell number vs) >>= bind n)
 
-    pub same_defined : (at : ℕ) (x : Definition (Doing C)) (y : Definition (Doing D)) (number : ℕ) → y.name ≡ x.name → y.defaults ≡ x.defaults → Allowed (header_sights at x.name (parameters x.required x.defaults)) → SameSteps name (defined st c x number) (defined su d y number)
+    pub same_defined : (at : ℕ) (x : Definition (Doing C)) (y : Definition (Doing D)) (number : ℕ) → y.name ≡ x.name → y.defaults ≡ x.defaults → Allowed (header_findings at x.name (parameters x.required x.defaults)) → SameSteps name (defined st c x number) (defined su d y number)
     unfolding defined
     same_defined at x y number h k r =
         subst (λ n. SameSteps name (defined_by st c x.name x.defaults number) (defined_by su d n y.defaults number)) (sym h)
@@ -236,10 +236,10 @@ module _ {C D : Type 0} (name : Names C D) where
 
     -- a statement, with what is shown of it
     abbrev Shown : Type 0
-    Shown = (s : Statement) × ((place : Place) → Allowed (statement_sights s place) → SameDoing (statement_of st c s) (statement_of su d s))
+    Shown = (s : Statement) × ((place : Place) → Allowed (statement_findings s place) → SameDoing (statement_of st c s) (statement_of su d s))
 
     abbrev shows : Statement-F Shown → Statement-F Shows
-    shows y = map-Statement Statement Shows statement_sights (map-Statement Shown Statement (λ s. s.0) y)
+    shows y = map-Statement Statement Shows statement_findings (map-Statement Shown Statement (λ s. s.0) y)
 
     abbrev lower : Statement-F Shown → Statement-F (Doing C)
     lower y = map-Statement Statement (Doing C) (statement_of st c) (map-Statement Shown Statement (λ s. s.0) y)
@@ -247,12 +247,12 @@ module _ {C D : Type 0} (name : Names C D) where
     abbrev upper : Statement-F Shown → Statement-F (Doing D)
     upper y = map-Statement Statement (Doing D) (statement_of su d) (map-Statement Shown Statement (λ s. s.0) y)
 
-    abbrev all_shows : Place → List Shown → List Sight
-    all_shows place ss = flat_map (λ f. f place) (map statement_sights (map (λ s. s.0) ss))
+    abbrev all_shows : Place → List Shown → List Finding
+    all_shows place ss = flat_map (λ f. f place) (map statement_findings (map (λ s. s.0) ss))
 
     all_shown : (place : Place) (ss : List Shown) → Allowed (all_shows place ss) → Each SameDoing (map (statement_of st c) (map (λ s. s.0) ss)) (map (statement_of su d) (map (λ s. s.0) ss))
     all_shown place [] h = tt
-    all_shown place (s ∷ ss) h = let parts = split (statement_sights s.0 place) (all_shows place ss) h in (s.1 place parts.0, all_shown place ss parts.1)
+    all_shown place (s ∷ ss) h = let parts = split (statement_findings s.0 place) (all_shows place ss) h in (s.1 place parts.0, all_shown place ss parts.1)
 
     -- a body, as that of a loop over nothing
     body_in : {X : Type 0} → Statement-F X → Block X
@@ -260,8 +260,8 @@ module _ {C D : Type 0} (name : Names C D) where
     body_in _ = blocks.Inline (record { smalls = []; semicolon = false })
 
     -- what a block shows
-    abbrev block_shows : Place → Block Shown → List Sight
-    block_shows place b = block_sights (body_in (shows (Statement-F.For 0 [] [] b))) place
+    abbrev block_shows : Place → Block Shown → List Finding
+    block_shows place b = block_findings (body_in (shows (Statement-F.For 0 [] [] b))) place
 
     same_block_of : (place : Place) (b : Block Shown) → Allowed (block_shows place b) → SameSteps name (block_of st c (body_in (lower (Statement-F.For 0 [] [] b)))) (block_of su d (body_in (upper (Statement-F.For 0 [] [] b))))
     unfolding body_in
@@ -276,19 +276,19 @@ module _ {C D : Type 0} (name : Names C D) where
     else_in (Statement-F.If at first more other) = other
     else_in _ = None
 
-    same_else_of : (place : Place) (at : ℕ) (first : Branch Shown) (more : List (Branch Shown)) (other : Option (Block Shown)) → Allowed (else_sights (else_in (shows (Statement-F.If at first more other))) place)
+    same_else_of : (place : Place) (at : ℕ) (first : Branch Shown) (more : List (Branch Shown)) (other : Option (Block Shown)) → Allowed (else_findings (else_in (shows (Statement-F.If at first more other))) place)
         → SameSteps name (else_of st c (else_in (lower (Statement-F.If at first more other)))) (else_of su d (else_in (upper (Statement-F.If at first more other))))
     unfolding else_in body_in
     same_else_of place at first more None h = same_going name flow.On
     same_else_of place at first more (Some (blocks.Inline line)) h = same_block_of place (blocks.Inline line) h
     same_else_of place at first more (Some (blocks.Indented ss)) h = same_block_of place (blocks.Indented ss) h
 
-    same_branch : (at : ℕ) (e : Expr) → Allowed (expr_sights at e) → (p x : Course C Flow) (q y : Course D Flow) → SameSteps name p q → SameSteps name x y
+    same_branch : (at : ℕ) (e : Expr) → Allowed (expr_findings at e) → (p x : Course C Flow) (q y : Course D Flow) → SameSteps name p q → SameSteps name x y
         → SameSteps name (condition_of st c at e >>= (λ t. if t then p else x)) (condition_of su d at e >>= (λ t. if t then q else y))
     same_branch at e r p x q y h k = same_next name _ _ _ _ (same_condition at e r) (λ t. same_choose name t p x q y h k)
 
-    abbrev branches_show : Place → ℕ → Branch Shown → List (Branch Shown) → List Sight
-    branches_show place at first more = flat_map (branch_sights at place) (branches_in (shows (Statement-F.If at first more None)))
+    abbrev branches_show : Place → ℕ → Branch Shown → List (Branch Shown) → List Finding
+    branches_show place at first more = flat_map (branch_findings at place) (branches_in (shows (Statement-F.If at first more None)))
 
     same_branches : (place : Place) (at : ℕ) (first : Branch Shown) (more : List (Branch Shown)) (p : Option (Block (Doing C))) (q : Option (Block (Doing D))) → Allowed (branches_show place at first more)
         → SameSteps name (else_of st c p) (else_of su d q)
@@ -296,28 +296,28 @@ module _ {C D : Type 0} (name : Names C D) where
     unfolding branches_in body_in
     same_branches place at first [] p q r h = h
     same_branches place at first (b ∷ more) p q r h =
-        let parts = split (expr_sights at b.condition ++ block_shows place b.body) (branches_show place at first more) r in
-        let branch = split (expr_sights at b.condition) (block_shows place b.body) parts.0 in
+        let parts = split (expr_findings at b.condition ++ block_shows place b.body) (branches_show place at first more) r in
+        let branch = split (expr_findings at b.condition) (block_shows place b.body) parts.0 in
         same_branch at b.condition branch.0 _ _ _ _ (same_block_of place b.body branch.1) (same_branches place at first more p q parts.1 h)
 
-    layer_same : (y : Statement-F Shown) (place : Place) → Allowed (layer_sights (shows y) place) → SameDoing (layer_of st c (lower y)) (layer_of su d (upper y))
+    layer_same : (y : Statement-F Shown) (place : Place) → Allowed (layer_findings (shows y) place) → SameDoing (layer_of st c (lower y)) (layer_of su d (upper y))
     unfolding branches_in else_in body_in
     layer_same (Statement-F.Line line) place h last number = same_line_of place last line h
     layer_same (Statement-F.If at first more other) place h last number =
         let inside = in_branch place in
-        let elses = else_sights (else_in (shows (Statement-F.If at first more other))) inside in
-        let parts = split (expr_sights at first.condition ++ block_shows inside first.body) (branches_show inside at first more ++ elses) h in
-        let branch = split (expr_sights at first.condition) (block_shows inside first.body) parts.0 in
+        let elses = else_findings (else_in (shows (Statement-F.If at first more other))) inside in
+        let parts = split (expr_findings at first.condition ++ block_shows inside first.body) (branches_show inside at first more ++ elses) h in
+        let branch = split (expr_findings at first.condition) (block_shows inside first.body) parts.0 in
         let rest = split (branches_show inside at first more) elses parts.1 in
         same_next name _ _ _ _ (same_located name at _ _ (same_charging name 1)) (λ _. same_branch at first.condition branch.0 _ _ _ _ (same_block_of inside first.body branch.1)
         (same_branches inside at first more _ _ rest.0 (same_else_of inside at first more other rest.1)))
     layer_same (Statement-F.For at targets over body) place h last number =
-        let parts = split (all_sights at targets) (all_sights at over ++ block_shows (in_turn place) body) h in
-        let rest = split (all_sights at over) (block_shows (in_turn place) body) parts.1 in
+        let parts = split (all_findings at targets) (all_findings at over ++ block_shows (in_turn place) body) h in
+        let rest = split (all_findings at over) (block_shows (in_turn place) body) parts.1 in
         same_next name _ _ _ _ (same_located name at _ _ (same_next name _ _ _ _ (same_charging name 1) (λ _. same_iterated at over rest.0))) (same_repeated at targets parts.0 _ _ (same_block_of (in_turn place) body rest.1))
     layer_same (Statement-F.Def at def) place h last None = same_located name at _ _ (same_then_on _ _ (same_charging name 1))
     layer_same (Statement-F.Def at def) place h last (Some number) =
-        let header = header_sights at def.name (parameters def.required def.defaults) in
+        let header = header_findings at def.name (parameters def.required def.defaults) in
         let parts = split (unless place.is_direct NestedDef at) (header ++ block_shows in_body def.body) h in
         let rest = split header (block_shows in_body def.body) parts.1 in
         same_located name at _ _ (same_then_on _ _ (same_next name _ _ _ _ (same_charging name 1) (λ _. same_defined at _ _ number refl refl rest.0)))
@@ -329,40 +329,40 @@ module _ {C D : Type 0} (name : Names C D) where
         subst (λ m. SameDoing m (statement_of su d (roll-Statement x))) (sym (fold-roll-Statement (Doing C) (layer_of st c) x))
         (subst (λ n. SameDoing (layer_of st c (map-Statement Statement (Doing C) (statement_of st c) x)) n) (sym (fold-roll-Statement (Doing D) (layer_of su d) x)) h)
 
-    rolled_sights : (x : Statement-F Statement) (place : Place) → Allowed (statement_sights (roll-Statement x) place) → Allowed (layer_sights (map-Statement Statement Shows statement_sights x) place)
-    unfolding statement_sights
-    rolled_sights x place h = subst (λ f. Allowed (f place)) (fold-roll-Statement Shows layer_sights x) h
+    rolled_findings : (x : Statement-F Statement) (place : Place) → Allowed (statement_findings (roll-Statement x) place) → Allowed (layer_findings (map-Statement Statement Shows statement_findings x) place)
+    unfolding statement_findings
+    rolled_findings x place h = subst (λ f. Allowed (f place)) (fold-roll-Statement Shows layer_findings x) h
 
     -- each statement that reads no other inputs does the same whatever the names of cells
-    pub same_statement : (s : Statement) (place : Place) → Allowed (statement_sights s place) → SameDoing (statement_of st c s) (statement_of su d s)
+    pub same_statement : (s : Statement) (place : Place) → Allowed (statement_findings s place) → SameDoing (statement_of st c s) (statement_of su d s)
     same_statement =
-        ind-Statement (λ s. (place : Place) → Allowed (statement_sights s place) → SameDoing (statement_of st c s) (statement_of su d s))
-        (λ x y is. subst (λ z. (place : Place) → Allowed (statement_sights (roll-Statement z) place) → SameDoing (statement_of st c (roll-Statement z)) (statement_of su d (roll-Statement z))) is
-        (λ place h. rolled_same _ (layer_same y place (rolled_sights _ place h))))
+        ind-Statement (λ s. (place : Place) → Allowed (statement_findings s place) → SameDoing (statement_of st c s) (statement_of su d s))
+        (λ x y is. subst (λ z. (place : Place) → Allowed (statement_findings (roll-Statement z) place) → SameDoing (statement_of st c (roll-Statement z)) (statement_of su d (roll-Statement z))) is
+        (λ place h. rolled_same _ (layer_same y place (rolled_findings _ place h))))
 
-    same_statements : (ss : List Statement) → Allowed (flat_map (λ s. statement_sights s in_body) ss)
+    same_statements : (ss : List Statement) → Allowed (flat_map (λ s. statement_findings s in_body) ss)
         → SameSteps name (in_sequence (λ last s. statement_of st c s false None) false ss) (in_sequence (λ last s. statement_of su d s false None) false ss)
     same_statements [] h = same_going name flow.On
     same_statements (s ∷ ss) h =
-        let parts = split (statement_sights s in_body) (flat_map (λ x. statement_sights x in_body) ss) h in
+        let parts = split (statement_findings s in_body) (flat_map (λ x. statement_findings x in_body) ss) h in
         same_next name _ _ _ _ (same_statement s in_body parts.0 false None) (same_go_on _ _ (same_statements ss parts.1))
 
-    pub same_body : (b : Block Statement) → Allowed (body_sights b) → SameSteps name (body_of st c b) (body_of su d b)
+    pub same_body : (b : Block Statement) → Allowed (body_findings b) → SameSteps name (body_of st c b) (body_of su d b)
     same_body (blocks.Inline line) h = same_line_of in_body false line h
     same_body (blocks.Indented ss) h = same_statements ss h
 
     -- ---- calls of functions
 
-    pub same_run_body : (def : Definition Statement) → Allowed (body_sights def.body) → (id : ℕ) (all : List Filled) → SameSteps name (run_body st c def id all) (run_body su d def id all)
+    pub same_run_body : (def : Definition Statement) → Allowed (body_findings def.body) → (id : ℕ) (all : List Filled) → SameSteps name (run_body st c def id all) (run_body su d def id all)
     unfolding run_body
     same_run_body def h id all =
         same_next name _ _ _ _ (same_charging name (sum (map default_weight all))) (λ _. same_in_function name id (local_block def all) _ _ (same_result_of _ _ (same_body def.body h)))
 
-    same_run_filled : (def : Definition Statement) → Allowed (body_sights def.body) → (id : ℕ) (o : Option (List Filled)) → SameSteps name (run_filled st c def id o) (run_filled su d def id o)
+    same_run_filled : (def : Definition Statement) → Allowed (body_findings def.body) → (id : ℕ) (o : Option (List Filled)) → SameSteps name (run_filled st c def id o) (run_filled su d def id o)
     same_run_filled def h id None = same_failing name failure.WrongArguments
     same_run_filled def h id (Some all) = same_run_body def h id all
 
-    pub same_run_defined : (id : ℕ) (defaults : List Value) (o : Option (Definition Statement)) → ((def : Definition Statement) → o ≡ Some def → Allowed (body_sights def.body)) → (vs : List Value) (n : ByName)
+    pub same_run_defined : (id : ℕ) (defaults : List Value) (o : Option (Definition Statement)) → ((def : Definition Statement) → o ≡ Some def → Allowed (body_findings def.body)) → (vs : List Value) (n : ByName)
         → SameSteps name (run_defined st c id defaults o vs n) (run_defined su d id defaults o vs n)
     same_run_defined id defaults None h vs n = same_failing name failure.WrongType
     same_run_defined id defaults (Some def) h vs n = same_run_filled def (h def refl) id (filled (parameters_of def defaults) vs n)

@@ -11,7 +11,7 @@ use Rattle.star_meaning.specs.Expressions.{Setting, Callee, Meant}
 use Rattle.star_syntax.specs.declared.statement.Definition.{Definition}
 use Rattle.star_syntax.specs.declared.statement.Statement.{Statement}
 use Rattle.star_meaning.specs.Growing.{Later, Leads, reached}
-use Rattle.star_meaning.specs.Reading.{SightsIn, body_sights}
+use Rattle.star_meaning.specs.Reading.{FindingsIn, body_findings}
 use Rattle.star_meaning.specs.Validity.{renamed}
 
 -- other names for cells, the cell that runs, the lists and dicts that are iterated over while an operation is done, the names
@@ -76,7 +76,7 @@ pub record SameSetting {C D : Type 0} (name : Names C D) (st : Setting C) (su : 
   -- the inputs agree on the names that may be read
   pub inputs : (n : List ℕ) → IsTrue (name.reads n) → value_of su.inputs n ≡ value_of st.inputs n
   -- and functions of these cells read no others
-  pub bodies : (c : C) (n : ℕ) (def : Definition Statement) → IsTrue (name.good c) → st.define c n ≡ Some def → SightsIn name.reads (body_sights def.body)
+  pub bodies : (c : C) (n : ℕ) (def : Definition Statement) → IsTrue (name.good c) → st.define c n ≡ Some def → FindingsIn name.reads (body_findings def.body)
 
 abbrev pub SameCallee : {C D : Type 0} → Names C D → Callee C → Callee D → Type 0
 SameCallee name c d = (id : ℕ) (vs : List Value) (by_name : ByName) → SameSteps name (c id vs by_name) (d id vs by_name)
