@@ -21,15 +21,10 @@ pub fn place_of(number: i128, count: u128) -> Option<u128>
     }
 }
 
-/// The integer that a range gives at a place. It is computed from the place.
+/// The integer that a range gives at a place.
 pub fn range_item(range: &Range, place: u128) -> i128
     requires { place < range_count range.now }
     ensures { result ≡ values.range_item range.now place }
 {
-    let distance = place * range.step.unsigned_abs();
-    if range.step > 0 {
-        range.start.saturating_add_unsigned(distance)
-    } else {
-        range.start.saturating_sub_unsigned(distance)
-    }
+    range.item(place)
 }

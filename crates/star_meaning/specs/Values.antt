@@ -1,5 +1,5 @@
 -- Values: truth, what they give when they are iterated, integers of 128 bits, names of types and built-in functions.
-use Rattle.std.specs.Prelude.{ℕ, zero, suc, ◌-◌, ◌^◌, ◌/◌, ◌==◌, nat_lt, Bool, true, false, not, ◌&&◌, if◌then◌else◌, List, [], ◌∷◌, map, Option, Some, None, option_map, ℤ, pos, negsuc, ◌+ℤ◌, ◌-ℤ◌, ◌*ℤ◌, int_lt, codes, bytes_eq}
+use Rattle.std.specs.Prelude.{ℕ, zero, suc, ◌-◌, ◌^◌, ◌/◌, ◌==◌, nat_lt, Bool, true, false, not, ◌&&◌, if◌then◌else◌, List, [], ◌∷◌, map, Option, Some, None, option_map, ℤ, pos, negsuc, ◌-ℤ◌, ◌*ℤ◌, int_lt, codes, bytes_eq}
 use Rattle.std.specs.List.{list_any, range_with_len}
 use Rattle.star_value.specs.declared.builtin.Builtin.{Builtin}
 use Rattle.star_value.specs.declared.builtin.Builtin.TheVariants as builtin
@@ -11,6 +11,7 @@ use Rattle.star_value.specs.declared.value.Value.TheVariants as value
 use Rattle.star_value.specs.declared.failure.Failure.{Failure}
 use Rattle.star_value.specs.declared.failure.Failure.TheVariants as failure
 use Rattle.star_value.specs.Keys as keys
+pub use Rattle.star_value.specs.Ranges.{range_item}
 use Rattle.star_value.specs.Ranges.{range_count}
 use Rattle.star_value.specs.Weight.{weight, depth, sum_of_weights}
 use Rattle.star_meaning.specs.State.{State, AList, ADict, AFunction, list, dict, next_id, with_new}
@@ -70,9 +71,6 @@ abbrev pub clamped : ℤ → ℤ → ℤ → ℤ
 clamped low high z = if int_lt z low then low else if int_lt high z then high else z
 
 -- ---- ranges
-
-abbrev pub range_item : Range → ℕ → ℤ
-range_item r place = r.start +ℤ (pos place *ℤ r.step)
 
 -- the integers that a range gives
 unfoldable pub integers_of : Range → List ℤ

@@ -8,4 +8,5 @@ pub mod FormatLemmas
 pub mod SameKeys
 pub mod KeyOrders
 pub mod RangeLaws
+pub mod RangeItems
 pub mod KeyWrites

@@ -1,4 +1,4 @@
--- How many integers a range gives.
+-- How many integers a range gives, and which.
 use Rattle.std.specs.Prelude.{ℕ, zero, suc, ◌+◌, ◌/◌, ℤ, pos, negsuc, ◌+ℤ◌, ◌-ℤ◌, ◌*ℤ◌, ◌<ℤ◌}
 use Rattle.star_value.specs.declared.range.Range.{Range}
 
@@ -23,6 +23,10 @@ comes_before z stop (pos zero) = ⊥
 comes_before z stop (pos (suc n)) = z <ℤ stop
 comes_before z stop (negsuc n) = stop <ℤ z
 
--- whether a range gives an integer at this place, counted from 0
+-- the integer of a range at a place, counted from 0
+abbrev pub range_item : Range → ℕ → ℤ
+range_item r place = r.start +ℤ (pos place *ℤ r.step)
+
+-- whether a range gives an integer at this place
 abbrev pub IsGiven : Range → ℕ → Type 0
-IsGiven r place = comes_before (r.start +ℤ pos place *ℤ r.step) r.stop r.step
+IsGiven r place = comes_before (range_item r place) r.stop r.step

@@ -29,4 +29,17 @@ impl Range {
         }
         (self.start.abs_diff(self.stop) - 1) / self.step.unsigned_abs() + 1
     }
+
+    /// The integer that the range gives at a place, counted from 0. It is computed from the place.
+    pub fn item(&self, place: u128) -> i128
+        requires { place < spec.range_count self.now }
+        ensures { result ≡ spec.range_item self.now place }
+    {
+        let distance = place * self.step.unsigned_abs();
+        if self.step > 0 {
+            self.start.saturating_add_unsigned(distance)
+        } else {
+            self.start.saturating_sub_unsigned(distance)
+        }
+    }
 }
