@@ -11,12 +11,13 @@ use Rattle.std.specs.Str.{all_scalars}
 use Rattle.std.specs.declared.cmp.Ordering.{Ordering}
 use Rattle.std.specs.declared.cmp.Ordering.TheVariants.{Less, Equal, Greater}
 use Rattle.chex_base.specs.TextOrder.{text_cmp}
+use Rattle.star_value.specs.Keys.{value_of}
 use Rattle.star_value.specs.declared.key.Key.{Key}
 use Rattle.star_value.specs.declared.value.Value.{Value}
 use Rattle.star_meaning.specs.State.{Object, AList, ADict, AFunction, items_held, pairs_held, function_held, dict_put, dict_without, function, object, with_list, with_dict}
 use Rattle.star_meaning.specs.Validity.{MachineState, IsMachine, is_list, is_dict, is_function, fits, all_in_object, all_in_pair, are_distinct, has_distinct_keys, has_32_bits, has_small_numbers}
 use Rattle.heap_store.specs.Objects.{defaults, defaults_in, emptied, with_defaults, with_nothing}
-use Rattle.heap_store.proofs.Tested.{and_left, and_right, and_both, all_push, all_set, all_insert, all_remove, one_passes}
+use Rattle.heap_store.proofs.Tested.{and_left, and_right, and_both, all_push, all_both, all_set, all_insert, all_remove, one_passes}
 use Rattle.heap_store.proofs.PairLemmas.{all_put, all_without, distinct_put, distinct_without}
 use Rattle.heap_store.proofs.References.{Alike, key_fits, object_fits, objects_stay, globals_stay, stay_new, stay_set}
 
@@ -64,7 +65,7 @@ with_objects m objects = record m { state = record { globals = m.state.globals; 
 globals_fit : (m : MachineState) → IsMachine m → IsTrue (list_all (λ global. fits m.state.objects global.1) m.state.globals)
 globals_fit m kept = and_left (list_all (λ global. fits m.state.objects global.1) m.state.globals) (list_all (all_in_object (fits m.state.objects)) m.state.objects) kept.references
 
-objects_fit : (m : MachineState) → IsMachine m → IsTrue (list_all (all_in_object (fits m.state.objects)) m.state.objects)
+pub objects_fit : (m : MachineState) → IsMachine m → IsTrue (list_all (all_in_object (fits m.state.objects)) m.state.objects)
 objects_fit m kept = and_right (list_all (λ global. fits m.state.objects global.1) m.state.globals) (list_all (all_in_object (fits m.state.objects)) m.state.objects) kept.references
 
 pub kept_enter : (m : MachineState) (node : ℕ) → IsMachine m → IsTrue (has_32_bits node) → length m.ran < 64 → IsMachine (record m { ran = m.ran ++ node ∷ [] })
@@ -137,6 +138,18 @@ kept_new m o kept distinct small fit room =
       few = kept.few;
       room = simp length-append (omega arith);
     }
+
+-- pairs whose values fit, as keys hold no reference
+pairs_all_fit : (os : Objects) (pairs : List (Key × Value)) → IsTrue (list_all (λ pair. fits os pair.1) pairs) → IsTrue (list_all (all_in_pair (fits os)) pairs)
+pairs_all_fit os [] h = refl
+pairs_all_fit os (pair ∷ pairs) h =
+    and_both (all_in_pair (fits os) pair) (list_all (all_in_pair (fits os)) pairs)
+    (and_both (fits os (value_of pair.0)) (fits os pair.1) (key_fits os pair.0) (and_left (fits os pair.1) (list_all (λ p. fits os p.1) pairs) h))
+    (pairs_all_fit os pairs (and_right (fits os pair.1) (list_all (λ p. fits os p.1) pairs) h))
+
+pub kept_new_dict : (m : MachineState) (pairs : List (Key × Value)) → IsMachine m → IsTrue (are_distinct pairs) → IsTrue (list_all (λ pair. fits m.state.objects pair.1) pairs)
+    → length m.state.objects < 1000000 * length m.ran → IsMachine (with_objects m (m.state.objects ++ ADict pairs ∷ []))
+kept_new_dict m pairs kept distinct fit = kept_new m (ADict pairs) kept distinct refl (pairs_all_fit m.state.objects pairs fit)
 
 pub kept_changed : (m : MachineState) (id : ℕ) (o : Object ℕ) → IsMachine m → Alike (slice_get m.state.objects id) o → IsTrue (has_distinct_keys o) → IsTrue (has_small_numbers o) → IsTrue (all_in_object (fits m.state.objects) o)
     → IsMachine (with_objects m (slice_set m.state.objects id o))
@@ -221,6 +234,12 @@ pub kept_insert : (m : MachineState) (id : ℕ) (o : Object ℕ) (place : ℕ) (
 kept_insert m id o place v kept is fit made =
     let items = items_held (slice_get m.state.objects id) in
     rw made (kept_list m id (insert items place v) kept is (all_insert (fits m.state.objects) items place v (items_fit (fits m.state.objects) m.state.objects id (objects_fit m kept)) fit))
+
+pub kept_more : (m : MachineState) (id : ℕ) (o : Object ℕ) (more : List Value) → IsMachine m → IsTrue (is_list (slice_get m.state.objects id)) → IsTrue (list_all (fits m.state.objects) more)
+    → o ≡ AList (items_held (slice_get m.state.objects id) ++ more) → IsMachine (with_objects m (slice_set m.state.objects id o))
+kept_more m id o more kept is fit made =
+    let items = items_held (slice_get m.state.objects id) in
+    rw made (kept_list m id (items ++ more) kept is (all_both (fits m.state.objects) items more (items_fit (fits m.state.objects) m.state.objects id (objects_fit m kept)) fit))
 
 pub kept_set : (m : MachineState) (id : ℕ) (o : Object ℕ) (place : ℕ) (v : Value) → IsMachine m → IsTrue (is_list (slice_get m.state.objects id)) → IsTrue (fits m.state.objects v)
     → o ≡ AList (slice_set (items_held (slice_get m.state.objects id)) place v) → IsMachine (with_objects m (slice_set m.state.objects id o))

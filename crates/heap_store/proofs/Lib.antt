@@ -3,3 +3,4 @@ pub mod PairLemmas
 pub mod References
 pub mod Kept
 pub mod Bound
+pub mod GivenItems

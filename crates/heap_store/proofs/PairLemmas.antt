@@ -1,6 +1,8 @@
--- What a key's place says of the pairs of a dict, and what stays of them when a pair is put or taken out.
+-- The pairs of a dict are the entries of an ordered map, and what stays of them when a pair is put or taken out.
 use Rattle.std.proofs.Common.{◌≡◌, ℕ, suc, ◌+◌, ◌<◌, ◌≤◌, Bool, true, false, not, ◌||◌, cond, List, [], ◌∷◌, ◌++◌, length, refl, sym, ap, ◌∙◌, arith, IsTrue, Some, None, get_or, slice_set, add-one}
-use Rattle.std.specs.List.{list_all, list_any, remove}
+use Rattle.std.specs.List.{list_all, list_any}
+use Rattle.std.specs.Map.{lookup, remove_entry}
+use Rattle.indexmap.specs.IndexMap.{insert_entry}
 use Rattle.star_value.specs.declared.key.Key.{Key}
 use Rattle.star_value.specs.declared.value.Value.{Value}
 use Rattle.star_value.specs.KeyLaws.{same_key_equiv}
@@ -8,101 +10,29 @@ use Rattle.star_value.specs.Keys.{value_of}
 use Rattle.star_value.specs.KeyOrder.{same_key}
 use Rattle.star_meaning.specs.State.{dict_get, dict_put, dict_without}
 use Rattle.star_meaning.specs.Validity.{all_in_pair, are_distinct}
-use Rattle.heap_store.specs.Places.{key_place}
 use Rattle.heap_store.proofs.Tested.{and_left, and_right, and_both}
 
 abbrev pub Pairs : Type 0
 Pairs = List (Key × Value)
 
--- ---- the place of a key
+-- ---- the words of a dict are those of an ordered map
 
-module _ (key : Key) where
-  got_here : (pair : Key × Value) (pairs : Pairs) (b : Bool) (d : Key × Value) → cond b 0 (key_place pairs key + 1) < suc (length pairs)
-      → (key_place pairs key < length pairs → dict_get pairs key ≡ Some (get_or pairs (key_place pairs key) d).1)
-      → cond b (Some pair.1) (dict_get pairs key) ≡ Some (get_or (pair ∷ pairs) (cond b 0 (key_place pairs key + 1)) d).1
-  got_here pair pairs true d within more = refl
-  got_here pair pairs false d within more = rw add-one (more (omega arith))
+pub got : (key : Key) (pairs : List (Key × Value)) → dict_get pairs key ≡ lookup (same_key key) pairs
+unfolding dict_get
+got key [] = refl
+got key (pair ∷ pairs) = ap (cond (same_key key pair.0) (Some pair.1)) (got key pairs)
 
-  pub got_at : (pairs : Pairs) (d : Key × Value) → key_place pairs key < length pairs → dict_get pairs key ≡ Some (get_or pairs (key_place pairs key) d).1
-  unfolding dict_get
-  got_at [] d within = absurd (omega arith)
-  got_at (pair ∷ pairs) d within = got_here pair pairs (same_key key pair.0) d within (got_at pairs d)
+pub put : (key : Key) (v : Value) (pairs : List (Key × Value)) → dict_put pairs key v ≡ insert_entry same_key pairs key v
+unfolding dict_put
+put key v [] = refl
+put key v (pair ∷ pairs) = ap (λ rest. cond (same_key key pair.0) ((pair.0, v) ∷ pairs) (pair ∷ rest)) (put key v pairs)
 
-  none_here : (pair : Key × Value) (pairs : Pairs) (b : Bool) → suc (length pairs) ≤ cond b 0 (key_place pairs key + 1)
-      → (length pairs ≤ key_place pairs key → dict_get pairs key ≡ None) → cond b (Some pair.1) (dict_get pairs key) ≡ None
-  none_here pair pairs true past more = absurd (omega arith)
-  none_here pair pairs false past more = more (omega arith)
+pub without : (key : Key) (pairs : List (Key × Value)) → dict_without pairs key ≡ remove_entry (same_key key) pairs
+unfolding dict_without
+without key [] = refl
+without key (pair ∷ pairs) = ap (λ rest. cond (same_key key pair.0) pairs (pair ∷ rest)) (without key pairs)
 
-  pub none_at : (pairs : Pairs) → length pairs ≤ key_place pairs key → dict_get pairs key ≡ None
-  unfolding dict_get
-  none_at [] past = refl
-  none_at (pair ∷ pairs) past = none_here pair pairs (same_key key pair.0) past (none_at pairs)
-
-  without_here : (pair : Key × Value) (pairs : Pairs) (b : Bool) → cond b 0 (key_place pairs key + 1) < suc (length pairs)
-      → (key_place pairs key < length pairs → remove pairs (key_place pairs key) ≡ dict_without pairs key)
-      → remove (pair ∷ pairs) (cond b 0 (key_place pairs key + 1)) ≡ cond b pairs (pair ∷ dict_without pairs key)
-  without_here pair pairs true within more = refl
-  without_here pair pairs false within more = rw add-one (ap (λ all. pair ∷ all) (more (omega arith)))
-
-  pub without_at : (pairs : Pairs) → key_place pairs key < length pairs → remove pairs (key_place pairs key) ≡ dict_without pairs key
-  unfolding dict_without
-  without_at [] within = absurd (omega arith)
-  without_at (pair ∷ pairs) within = without_here pair pairs (same_key key pair.0) within (without_at pairs)
-
-  same_here : (pair : Key × Value) (pairs : Pairs) (b : Bool) → suc (length pairs) ≤ cond b 0 (key_place pairs key + 1)
-      → (length pairs ≤ key_place pairs key → pairs ≡ dict_without pairs key) → pair ∷ pairs ≡ cond b pairs (pair ∷ dict_without pairs key)
-  same_here pair pairs true past more = absurd (omega arith)
-  same_here pair pairs false past more = ap (λ all. pair ∷ all) (more (omega arith))
-
-  pub same_at : (pairs : Pairs) → length pairs ≤ key_place pairs key → pairs ≡ dict_without pairs key
-  unfolding dict_without
-  same_at [] past = refl
-  same_at (pair ∷ pairs) past = same_here pair pairs (same_key key pair.0) past (same_at pairs)
-
-  module _ (v : Value) where
-    set_here : (pair : Key × Value) (pairs : Pairs) (b : Bool) (d : Key × Value) → cond b 0 (key_place pairs key + 1) < suc (length pairs)
-        → (key_place pairs key < length pairs → slice_set pairs (key_place pairs key) ((get_or pairs (key_place pairs key) d).0, v) ≡ dict_put pairs key v)
-        → slice_set (pair ∷ pairs) (cond b 0 (key_place pairs key + 1)) ((get_or (pair ∷ pairs) (cond b 0 (key_place pairs key + 1)) d).0, v) ≡ cond b ((pair.0, v) ∷ pairs) (pair ∷ dict_put pairs key v)
-    set_here pair pairs true d within more = refl
-    set_here pair pairs false d within more = rw add-one (ap (λ all. pair ∷ all) (more (omega arith)))
-
-    pub set_at : (pairs : Pairs) (d : Key × Value) → key_place pairs key < length pairs → slice_set pairs (key_place pairs key) ((get_or pairs (key_place pairs key) d).0, v) ≡ dict_put pairs key v
-    unfolding dict_put
-    set_at [] d within = absurd (omega arith)
-    set_at (pair ∷ pairs) d within = set_here pair pairs (same_key key pair.0) d within (set_at pairs d)
-
-    push_here : (pair : Key × Value) (pairs : Pairs) (b : Bool) → suc (length pairs) ≤ cond b 0 (key_place pairs key + 1)
-        → (length pairs ≤ key_place pairs key → pairs ++ (key, v) ∷ [] ≡ dict_put pairs key v)
-        → pair ∷ (pairs ++ (key, v) ∷ []) ≡ cond b ((pair.0, v) ∷ pairs) (pair ∷ dict_put pairs key v)
-    push_here pair pairs true past more = absurd (omega arith)
-    push_here pair pairs false past more = ap (λ all. pair ∷ all) (more (omega arith))
-
-    pub push_at : (pairs : Pairs) → length pairs ≤ key_place pairs key → pairs ++ (key, v) ∷ [] ≡ dict_put pairs key v
-    unfolding dict_put
-    push_at [] past = refl
-    push_at (pair ∷ pairs) past = push_here pair pairs (same_key key pair.0) past (push_at pairs)
-
--- ---- the same at a number that is the place
-
-pub got_place : (key : Key) (pairs : Pairs) (d : Key × Value) (n : ℕ) → n ≡ key_place pairs key → n < length pairs → Some (get_or pairs n d).1 ≡ dict_get pairs key
-got_place key pairs d n is within = rw is (sym (got_at key pairs d (rw is at within)))
-
-pub got_nothing : (key : Key) (pairs : Pairs) (n : ℕ) → n ≡ key_place pairs key → length pairs ≤ n → None ≡ dict_get pairs key
-got_nothing key pairs n is past = sym (none_at key pairs (rw is at past))
-
-pub removed_place : (key : Key) (pairs : Pairs) (n : ℕ) → n ≡ key_place pairs key → n < length pairs → remove pairs n ≡ dict_without pairs key
-removed_place key pairs n is within = rw is (without_at key pairs (rw is at within))
-
-pub removed_nothing : (key : Key) (pairs : Pairs) (n : ℕ) → n ≡ key_place pairs key → length pairs ≤ n → pairs ≡ dict_without pairs key
-removed_nothing key pairs n is past = same_at key pairs (rw is at past)
-
-pub put_found : (key : Key) (v : Value) (pairs : Pairs) (kept : Key × Value) (n : ℕ) → n ≡ key_place pairs key → n < length pairs → kept ≡ get_or pairs n kept → slice_set pairs n (kept.0, v) ≡ dict_put pairs key v
-put_found key v pairs kept n is within here =
-    let e : slice_set pairs n ((get_or pairs n kept).0, v) ≡ dict_put pairs key v = rw is (set_at key v pairs kept (rw is at within)) in
-    ap (λ (p : Key × Value). slice_set pairs n (p.0, v)) here ∙ e
-
-pub put_new : (key : Key) (v : Value) (pairs : Pairs) (n : ℕ) → n ≡ key_place pairs key → length pairs ≤ n → pairs ++ (key, v) ∷ [] ≡ dict_put pairs key v
-put_new key v pairs n is past = push_at key v pairs (rw is at past)
+pub ruleset words = (got, put, without)
 
 -- ---- a test of each key and value
 
@@ -202,3 +132,12 @@ module _ (key : Key) where
   unfolding dict_without
   distinct_without [] h = refl
   distinct_without (pair ∷ pairs) h = distinct_without_here pair pairs (same_key key pair.0) h (distinct_without pairs (and_right (not (stands pair.0 pairs)) (are_distinct pairs) h))
+
+pub put_keeps : (key : Key) (v : Value) (pairs : List (Key × Value)) → IsTrue (are_distinct pairs) → IsTrue (are_distinct (insert_entry same_key pairs key v))
+put_keeps key v pairs h = rw (← put key v pairs) (distinct_put key v pairs h)
+
+pub without_keeps : (key : Key) (pairs : List (Key × Value)) → IsTrue (are_distinct pairs) → IsTrue (are_distinct (remove_entry (same_key key) pairs))
+without_keeps key pairs h = rw (← without key pairs) (distinct_without key pairs h)
+
+-- no key stands twice after a put, and none after a take
+pub ruleset distinct = (put_keeps, without_keeps)

@@ -6,5 +6,5 @@ use Rattle.heap_store.specs.declared.object.Form.TheVariants.{List as HeldList, 
 
 abbrev pub object_of : Form → Object ℕ
 object_of (HeldList items) = AList items.items
-object_of (HeldDict pairs) = ADict pairs.items
+object_of (HeldDict pairs) = ADict pairs.value
 object_of (HeldFunction cell number defaults) = AFunction cell number defaults

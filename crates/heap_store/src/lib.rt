@@ -3,6 +3,7 @@
 //! read of it.
 #![tactic(auto)]
 
+pub mod iterated;
 mod kind;
 mod machine;
 mod object;
@@ -10,3 +11,4 @@ mod pairs;
 
 pub use kind::Kind;
 pub use machine::Machine;
+pub use pairs::Pairs;

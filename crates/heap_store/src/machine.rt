@@ -12,12 +12,13 @@ ghost use Rattle.star_meaning.specs.State.{AList, ADict, AFunction};
 ghost use Rattle.star_meaning.specs.Validity.{IsMachine, nothing_ran, fits, is_list, is_dict, is_function, has_32_bits};
 
 use crate::object::Object;
-use crate::{Kind, pairs};
+use crate::{Kind, Pairs};
 use chex_base::{NoMemory, NodeId, ObjectId, Text};
 use sqlite_items::Items;
 use star_value::{Key, Value, Values};
 use std::alloc::Global;
 use std::collections::BTreeMap;
+use std::collections::btree_map::Iter;
 use std::marker::Model;
 
 /// What the cells that have run leave to the next one: global names with their values, objects
@@ -121,6 +122,15 @@ impl Machine {
         }
     }
 
+    /// The global names with their values, in rising byte order of the names, one after the other. A
+    /// walk over all of them takes time linear in their number.
+    pub fn global_entries(&self) -> Iter<'_, Text, Value>
+        ensures value { result ≡ self.now.state.globals }
+        ensures kept { IsMachine self.now }
+    {
+        self.globals.iter()
+    }
+
     /// The value of a global name, if it is bound. It takes a number of comparisons that grows with
     /// the logarithm of the count of names.
     #[tactic(auto, unfolding(star_meaning::specs::State::global))]
@@ -166,14 +176,26 @@ impl Machine {
     }
 
     /// A new dict without a pair. Where memory is wanting nothing changes.
-    #[tactic(auto, unfolding(star_meaning::specs::State::with_new, star_meaning::specs::State::next_id))]
     pub fn new_dict(&mut self) -> Result<ObjectId, NoMemory>
         requires { length self.old.state.objects < 1000000 * length self.old.ran }
         ensures ok { IfOk result (λ id. (id ≡ state.next_id self.old.state) × (self.new ≡ record self.old { state = state.with_new self.old.state (ADict []) })) }
         ensures err { OnErr result (self.new ≡ self.old) }
     {
+        self.new_dict_of(Pairs::new(self.alloc))
+    }
+
+    /// A new dict of these pairs, which it takes over as they are. Where memory is wanting nothing
+    /// changes, and the pairs are dropped.
+    #[tactic(auto, unfolding(star_meaning::specs::State::with_new, star_meaning::specs::State::next_id))]
+    pub fn new_dict_of(&mut self, pairs: Pairs) -> Result<ObjectId, NoMemory>
+        requires fit { IsTrue (list_all (λ pair. fits self.old.state.objects pair.1) pairs) }
+        requires room { length self.old.state.objects < 1000000 * length self.old.ran }
+        ensures ok { IfOk result (λ id. (id ≡ state.next_id self.old.state) × (self.new ≡ record self.old { state = state.with_new self.old.state (ADict pairs) })) }
+        ensures err { OnErr result (self.new ≡ self.old) }
+    {
         let id = ObjectId(self.objects.len() as u32);
-        self.objects.push(Object::dict(self.alloc))?;
+        let pairs = pairs.boxed(self.alloc)?;
+        self.objects.push(Object::dict(pairs))?;
         Ok(id)
     }
 
@@ -222,6 +244,20 @@ impl Machine {
         Ok(())
     }
 
+    /// Moves these items to the end of a list, one after the other. Where memory is wanting nothing
+    /// changes, and they are dropped.
+    #[tactic(auto, unfolding(star_meaning::specs::State::with_list, star_meaning::specs::State::list, star_meaning::specs::State::object))]
+    pub fn list_extend(&mut self, id: ObjectId, more: Values) -> Result<(), NoMemory>
+        requires kind { IsTrue (is_list (slice_get self.old.state.objects id)) }
+        requires fit { IsTrue (list_all (fits self.old.state.objects) more) }
+        ensures ok { OnOk result (self.new ≡ record self.old { state = state.with_list self.old.state id (state.list self.old.state id ++ more) }) }
+        ensures err { OnErr result (self.new ≡ self.old) }
+    {
+        let more = to_vec(self.alloc, more)?;
+        self.objects[id.0 as usize].extend(more)?;
+        Ok(())
+    }
+
     /// Puts a value in the place of an item of a list. It takes no memory.
     #[tactic(auto, unfolding(star_meaning::specs::State::with_list, star_meaning::specs::State::list, star_meaning::specs::State::object))]
     pub fn list_set(&mut self, id: ObjectId, place: usize, value: Value)
@@ -254,6 +290,16 @@ impl Machine {
         self.objects[id.0 as usize].clear();
     }
 
+    /// The pairs of a dict, in order of insertion.
+    #[tactic(auto, unfolding(star_meaning::specs::State::dict, star_meaning::specs::State::object))]
+    pub fn dict(&self, id: ObjectId) -> &Pairs
+        requires { IsTrue (is_dict (slice_get self.now.state.objects id)) }
+        ensures value { result.now ≡ state.dict self.now.state id }
+        ensures kept { IsMachine self.now }
+    {
+        self.objects[id.0 as usize].pairs()
+    }
+
     /// How many pairs a dict has.
     #[tactic(auto, unfolding(star_meaning::specs::State::dict, star_meaning::specs::State::object))]
     pub fn dict_len(&self, id: ObjectId) -> usize
@@ -272,23 +318,22 @@ impl Machine {
         ensures value { slice_get (state.dict self.now.state id) place ≡ Some (result.0.now, result.1.now) }
         ensures kept { IsMachine self.now }
     {
-        let pair = &self.objects[id.0 as usize].pairs()[place];
-        (&pair.0, &pair.1)
+        self.objects[id.0 as usize].pairs().at(place)
     }
 
-    /// The value of a key in a dict, if it is there. It compares the keys one after the other.
+    /// The value of a key in a dict, if it is there. The key is found by its hash.
     #[tactic(auto, unfolding(star_meaning::specs::State::dict, star_meaning::specs::State::object))]
     pub fn dict_get(&self, id: ObjectId, key: &Key) -> Option<&Value>
         requires { IsTrue (is_dict (slice_get self.now.state.objects id)) }
         ensures value { option_copied result ≡ state.dict_get (state.dict self.now.state id) key.now }
         ensures kept { IsMachine self.now }
     {
-        pairs::get(self.objects[id.0 as usize].pairs(), key)
+        self.objects[id.0 as usize].pairs().get(key)
     }
 
-    /// Gives a key of a dict this value: a present key keeps its place, and a new one goes last. It
-    /// compares the keys one after the other. Where memory is wanting nothing changes, and the key
-    /// and the value are dropped.
+    /// Gives a key of a dict this value: a present key keeps its place, and a new one goes last. The
+    /// key is found by its hash. Where memory is wanting nothing changes, and the key and the value
+    /// are dropped.
     #[tactic(auto, unfolding(star_meaning::specs::State::with_dict, star_meaning::specs::State::dict, star_meaning::specs::State::object))]
     pub fn dict_put(&mut self, id: ObjectId, key: Key, value: Value) -> Result<(), NoMemory>
         requires kind { IsTrue (is_dict (slice_get self.old.state.objects id)) }
@@ -301,8 +346,8 @@ impl Machine {
     }
 
     /// Takes a key with its value out of a dict, and answers the value, or None where the key is
-    /// not there. The pairs behind it close up. It compares the keys one after the other, and takes
-    /// no memory.
+    /// not there. The pairs behind it close up, which takes time linear in their number and no
+    /// memory.
     #[tactic(auto, unfolding(star_meaning::specs::State::with_dict, star_meaning::specs::State::dict, star_meaning::specs::State::object))]
     pub fn dict_remove(&mut self, id: ObjectId, key: &Key) -> Option<Value>
         requires { IsTrue (is_dict (slice_get self.old.state.objects id)) }

@@ -1,22 +1,21 @@
 //! One object of a machine.
-ghost use Rattle.std.specs.Prelude.{◌≡◌, ◌<◌, ◌≤◌, [], length, IsTrue, IfSome, OnErr, OnOk, slice_get, slice_set, insert, remove};
+ghost use Rattle.std.specs.Prelude.{◌≡◌, ◌<◌, ◌≤◌, ◌++◌, length, IsTrue, IfSome, OnErr, OnOk, slice_get, slice_set, insert, remove};
 ghost use Rattle.heap_store.specs.Objects.{kind_of, emptied, defaults_in};
 ghost use Rattle.star_meaning.specs.State as state;
 ghost use Rattle.star_meaning.specs.State.{AList, ADict, AFunction, items_held, pairs_held, function_held};
 ghost use Rattle.star_meaning.specs.Validity.{is_list, is_dict, is_function};
 
-use crate::Kind;
-use crate::pairs::{self, Pair};
+use crate::{Kind, Pairs};
 use chex_base::{NoMemory, NodeId};
 use sqlite_items::Items;
 use star_value::{Key, Value, Values};
-use std::alloc::Global;
 use std::marker::Model;
 
 #[derive(Drop)]
 enum Form {
     List(Vec<Value>),
-    Dict(Vec<Pair>),
+    /// In a box, since a map is larger than a list.
+    Dict(Box<Pairs>),
     /// The cell, the number of the function in it, and the values of the defaults.
     Function(NodeId, u32, Values),
 }
@@ -53,12 +52,12 @@ impl Object {
         }
     }
 
-    /// The dict without a pair. It takes no memory.
-    pub fn dict(alloc: Global) -> Object
-        ensures { result ≡ ADict [] }
+    /// The dict of these pairs. It takes no memory.
+    pub fn dict(pairs: Box<Pairs>) -> Object
+        ensures { result ≡ ADict pairs.value }
     {
         Object {
-            form: Form::Dict(Vec::new(alloc)),
+            form: Form::Dict(pairs),
         }
     }
 
@@ -95,12 +94,12 @@ impl Object {
     }
 
     /// The pairs of a dict, in order of insertion.
-    pub fn pairs(&self) -> &[Pair]
+    pub fn pairs(&self) -> &Pairs
         requires { IsTrue (is_dict (Some self.now)) }
         ensures { result.now ≡ pairs_held (Some self.now) }
     {
         match &self.form {
-            Form::Dict(pairs) => pairs.as_slice(),
+            Form::Dict(pairs) => pairs,
             Form::List(_) => unreachable!(),
             Form::Function(_, _, _) => unreachable!(),
         }
@@ -128,6 +127,21 @@ impl Object {
     {
         match &mut self.form {
             Form::List(items) => items.insert(place, value)?,
+            Form::Dict(_) => unreachable!(),
+            Form::Function(_, _, _) => unreachable!(),
+        }
+        Ok(())
+    }
+
+    /// Moves these items to the end of a list. Where memory is wanting nothing changes, and they are
+    /// dropped.
+    pub fn extend(&mut self, mut more: Vec<Value>) -> Result<(), NoMemory>
+        requires { IsTrue (is_list (Some self.old)) }
+        ensures ok { OnOk result (self.new ≡ AList (items_held (Some self.old) ++ more.items)) }
+        ensures err { OnErr result (self.new ≡ self.old) }
+    {
+        match &mut self.form {
+            Form::List(items) => items.append(&mut more)?,
             Form::Dict(_) => unreachable!(),
             Form::Function(_, _, _) => unreachable!(),
         }
@@ -180,7 +194,7 @@ impl Object {
         ensures err { OnErr result (self.new ≡ self.old) }
     {
         match &mut self.form {
-            Form::Dict(held) => pairs::put(held, key, value)?,
+            Form::Dict(held) => held.put(key, value)?,
             Form::List(_) => unreachable!(),
             Form::Function(_, _, _) => unreachable!(),
         }
@@ -194,7 +208,7 @@ impl Object {
         ensures rest { self.new ≡ ADict (state.dict_without (pairs_held (Some self.old)) key.now) }
     {
         match &mut self.form {
-            Form::Dict(held) => pairs::remove(held, key),
+            Form::Dict(held) => held.take(key),
             Form::List(_) => unreachable!(),
             Form::Function(_, _, _) => unreachable!(),
         }
