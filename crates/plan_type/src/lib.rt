@@ -6,6 +6,7 @@
 
 pub mod budget;
 pub mod costs;
+pub mod offer;
 pub mod operations;
 pub mod plan;
 pub mod row;
@@ -13,10 +14,8 @@ pub mod text;
 
 pub use budget::Budget;
 pub use costs::{Costs, Rows};
+pub use offer::{Fees, Offer};
 pub use operations::{Operation, Operations};
 pub use plan::{Entries, Entry, Plan};
 pub use row::{Reach, Row};
 pub use text::write_plan;
-
-#[cfg(test)]
-mod tests;

@@ -8,7 +8,7 @@ use Rattle.std.proofs.lemmas.List.Elements.{All-from_recursion, recursion_from_A
 use Rattle.plan_type.specs.declared.plan.Entry.{Entry}
 use Rattle.plan_type.specs.Plan.{named, HoldsNone}
 use Rattle.plan_type.specs.Prices.{listed_cost}
-use Rattle.plan_optimum.specs.Bounds.{Choice, last, other, with_last, least_by, all_free, some_held, local}
+use Rattle.plan_type.specs.Choices.{Choice, last, other, with_last, least_by, all_free, some_held, local}
 
 times : (n r : ℕ) → (suc (suc n) - 1) * r ≡ r + (suc n - 1) * r
 times n r = let a : suc (suc n) - 1 ≡ suc n = omega arith in let b : suc n - 1 ≡ n = omega arith in rw (a, b) (omega arith)
