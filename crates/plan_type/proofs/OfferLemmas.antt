@@ -18,6 +18,11 @@ pub free_room : (fees : Fees) (os : List Offer) (i : ℕ) (d : Offer) → i < le
 free_room fees os i d lt =
     let a = sum_by_more_le_part (offer_free fees) (offer_free fees) os i d lt (λ o. omega arith) in omega (arith, a)
 
+pub any_default : {X : Type 0} (xs : List X) (i : ℕ) (d e : X) → i < length xs → get_or xs i d ≡ get_or xs i e
+any_default [] i d e lt = absurd (omega arith)
+any_default (x ∷ xs) zero d e lt = refl
+any_default (x ∷ xs) (suc i) d e lt = any_default xs i d e (omega arith)
+
 -- one offer is a part of them all
 pub part : (f : Offer → ℕ) (os : List Offer) (i : ℕ) (d : Offer) → i < length os → f (get_or os i d) ≤ sum_by f os
 part f [] i d lt = absurd (omega arith)
@@ -95,7 +100,7 @@ module _ (c : Choice) where
       weaker [] m n le h = tt
       weaker (x ∷ xs) m n le (h, more) = (omega arith, weaker xs m n le more)
 
-  free_all : (can : Bool) (vs : List ℕ) → offers_free (fees_at c can) (map (offer_at c can) vs) ≡ all_free c vs
+  pub free_all : (can : Bool) (vs : List ℕ) → offers_free (fees_at c can) (map (offer_at c can) vs) ≡ all_free c vs
   free_all can [] = omega arith
   free_all can (v ∷ vs) =
       let s = sum_mapped (offer_free (fees_at c can)) (offer_at c can) (λ v. c.free v + c.return) (λ v. refl) (v ∷ vs) in

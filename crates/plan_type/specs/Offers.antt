@@ -6,7 +6,7 @@ use Rattle.plan_type.specs.declared.offer.Fees.{Fees}
 use Rattle.plan_type.specs.Choices.{Choice}
 
 abbrev pub no_offer : Offer
-no_offer = record { free = 0; held = 0 }
+no_offer = record { child = 0; free = 0; held = 0 }
 
 -- a child with a return after it, without and with its parent held
 abbrev pub offer_free : Fees → Offer → ℕ
@@ -44,7 +44,7 @@ offers_local fees os = min (offers_free fees os) (offers_held fees os)
 
 -- what a child offers; where its parent may not be held, that is offered at the price of not holding
 abbrev pub offer_at : Choice → Bool → ℕ → Offer
-offer_at c can v = record { free = c.free v; held = if can then c.held v else c.free v + c.return }
+offer_at c can v = record { child = v; free = c.free v; held = if can then c.held v else c.free v + c.return }
 
 abbrev pub fees_at : Choice → Bool → Fees
 fees_at c can = record { back = c.return; load = if can then c.load else 0; save = if can then c.save else 0 }

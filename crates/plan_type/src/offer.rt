@@ -2,9 +2,13 @@
 ghost use Rattle.std.specs.Prelude.{◌≡◌, ◌≤◌, ◌<◌, ◌+◌, ◌-◌, ◌^◌, length, sum_by, get_or, nat_lt};
 ghost use Rattle.plan_type.specs.Offers.{offer_free, offer_held, offer_other, offer_last, offer_saving, most_saved, offers_free, offers_held, offers_local, no_offer};
 
+use chex_base::NodeId;
+
 /// What a child costs, its subtree included.
 #[derive(Clone, Copy, Debug)]
 pub struct Offer {
+    /// The child.
+    pub child: NodeId,
     /// Without its parent held.
     pub free: u64,
     /// With its parent held; where that may not be, what it costs without, and the return.
