@@ -12,9 +12,9 @@ pub mod plan;
 pub mod row;
 pub mod text;
 
-pub use budget::Budget;
+pub use budget::{Budget, price};
 pub use costs::{Costs, Rows};
-pub use offer::{Fees, Offer};
+pub use offer::{Fees, Offer, is_worth_holding, local, place_of_last};
 pub use operations::{Operation, Operations};
 pub use plan::{Entries, Entry, Plan};
 pub use row::{Reach, Row};

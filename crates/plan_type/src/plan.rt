@@ -1,11 +1,11 @@
 //! Plans: an order of the nodes, and which snapshots are held.
-ghost use Rattle.std.specs.Prelude.{◌≡◌, ◌≤◌, ◌<◌, ◌*◌, ◌^◌, ◌&&◌, not, true, if◌then◌else◌};
+ghost use Rattle.std.specs.Prelude.{◌≡◌, ◌≤◌, ◌<◌, ◌*◌, ◌^◌, ◌&&◌, not, if◌then◌else◌};
 ghost use Rattle.plan_type.specs.Budget.{IsBudget};
 ghost use Rattle.plan_type.specs.Costs.{IsSound, children_of, steps_of, blocks_of, tree_of};
 ghost use Rattle.plan_type.specs.Plan.{entries_of, IsPlan, IsPlanOf, IsPlanFrom, IsWithin, work, work_at, peak, peak_at};
 ghost use Rattle.plan_type.specs.Prices.{prices_of, cost, cost_at};
 
-use crate::budget::Budget;
+use crate::budget::{Budget, price};
 use crate::costs::Costs;
 use chex_base::NodeId;
 use sqlite_items::Items;
@@ -168,14 +168,4 @@ fn begins(hold: bool, held: bool) -> bool
     ensures { result ≡ (hold && not held) }
 {
     hold && !held
-}
-
-/// The price of storing or restoring these blocks, where that is done.
-fn price(done: bool, rate: u32, blocks: u64) -> u64
-    requires rate { rate ≤ 1000000 }
-    requires blocks { done ≡ true → blocks ≤ 1024 }
-    ensures value { result ≡ (if done then rate * blocks else 0) }
-    ensures most { result ≤ 1024000000 }
-{
-    if done { u64::from(rate) * blocks } else { 0 }
 }
