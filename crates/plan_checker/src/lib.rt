@@ -13,5 +13,3 @@ pub mod wrong;
 pub use fault::CheckFault;
 pub use verdict::{Verdict, check};
 
-#[cfg(test)]
-mod tests;
