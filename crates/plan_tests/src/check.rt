@@ -1,8 +1,8 @@
 //! Texts whose verdicts were worked out by hand.
 
-use crate::CheckFault::{self, NotPlan, OverBudget, WrongChild};
-use crate::check;
 use chex_base::{NoMemory, NodeId};
+use plan_checker::CheckFault::{self, NotPlan, OverBudget, WrongChild};
+use plan_checker::check;
 use plan_type::{Budget, Costs, Reach, Row};
 use sqlite_items::Items;
 use std::alloc::Global;
@@ -42,20 +42,31 @@ fn failed(parent: u32, steps: u64) -> Row {
 /// What is expected of a text: its cost and its peak, or its fault.
 type Expected = Result<(u64, u64), CheckFault>;
 
+/// So many blocks of 4,096 bytes, and no prices.
+fn room(most: u32) -> Budget {
+    Budget {
+        block: 4096,
+        most,
+        save: 0,
+        load: 0,
+    }
+}
+
 fn run(
     rt: &impl Abort,
     alloc: Global,
     costs: &Costs,
-    most: u32,
+    budget: &Budget,
     name: &str,
     text: &str,
     expected: Expected,
 ) -> Result<(), Fail> {
     assert!(rt; costs.sound(), "{name}");
-    assert!(rt; most <= 1024, "{name}");
+    assert!(rt; 256 <= budget.block && budget.block <= 1_048_576, "{name}");
+    assert!(rt; budget.most <= 1024, "{name}");
+    assert!(rt; budget.save <= 1_000_000 && budget.load <= 1_000_000, "{name}");
     assert!(rt; text.len() <= 1000, "{name}");
-    let budget = Budget { block: 4096, most };
-    match check(alloc, costs, &budget, text.as_bytes()) {
+    match check(alloc, costs, budget, text.as_bytes()) {
         Ok(verdict) => {
             assert_eq!(rt; Ok((verdict.cost, verdict.peak)), expected, "{name}");
         }
@@ -188,7 +199,7 @@ fn texts_of_a_fan(rt: HostRuntime) -> Result<(), Fail> {
     let alloc = rt.alloc();
     let costs = fan(alloc, 4096)?;
     for (name, text, expected) in FAN_TEXTS {
-        run(&rt, alloc, &costs, 1, name, text, expected)?;
+        run(&rt, alloc, &costs, &room(1), name, text, expected)?;
     }
     Ok(())
 }
@@ -244,11 +255,11 @@ fn budgets_are_kept(rt: HostRuntime) -> Result<(), Fail> {
     let alloc = rt.alloc();
     let wide = fan(alloc, 8193)?;
     for (name, most, text, expected) in WIDE_TEXTS {
-        run(&rt, alloc, &wide, most, name, text, expected)?;
+        run(&rt, alloc, &wide, &room(most), name, text, expected)?;
     }
     let deep = deep(alloc)?;
     for (name, most, text, expected) in DEEP_TEXTS {
-        run(&rt, alloc, &deep, most, name, text, expected)?;
+        run(&rt, alloc, &deep, &room(most), name, text, expected)?;
     }
     Ok(())
 }
@@ -261,5 +272,40 @@ fn an_unreached_node_stands_in_no_plan(rt: HostRuntime) -> Result<(), Fail> {
     };
     let text = "chex-plan 1\n1 1 free\n2 2 free\n";
     let expected = Err(WrongChild { node: NodeId(2) });
-    run(&rt, alloc, &cut, 1, "an unreached node", text, expected)
+    run(&rt, alloc, &cut, &room(1), "an unreached node", text, expected)
+}
+
+/// Texts over a fan of three with room for one block, at 4 steps for saving a block and 3 for
+/// loading one.
+const PRICED_TEXTS: [(&str, &str, Expected); 3] = [
+    (
+        "one save and two loads",
+        "chex-plan 1\n1 1 free\n2 2 hold\n2 3 hold\n2 4 free\n",
+        Ok((23, 1)),
+    ),
+    (
+        "two saves, a load and a computing",
+        "chex-plan 1\n1 1 free\n2 2 hold\n2 3 free\n2 4 hold\n",
+        Ok((34, 1)),
+    ),
+    (
+        "none held",
+        "chex-plan 1\n1 1 free\n2 2 free\n2 3 free\n2 4 free\n",
+        Ok((33, 0)),
+    ),
+];
+
+#[test]
+fn a_cost_has_the_prices(rt: HostRuntime) -> Result<(), Fail> {
+    let alloc = rt.alloc();
+    let costs = fan(alloc, 4096)?;
+    let budget = Budget {
+        save: 4,
+        load: 3,
+        ..room(1)
+    };
+    for (name, text, expected) in PRICED_TEXTS {
+        run(&rt, alloc, &costs, &budget, name, text, expected)?;
+    }
+    Ok(())
 }

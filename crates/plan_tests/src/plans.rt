@@ -3,13 +3,8 @@ ghost use Rattle.std.specs.Prelude.{◌≡◌, ◌≤◌, length, true, IfOk};
 ghost use Rattle.plan_type.specs.Costs.{children_of};
 ghost use Rattle.plan_type.specs.Plan.{entries_of, HoldsNone, IsPlan, IsPlanOf};
 
-use crate::budget::Budget;
-use crate::costs::Costs;
-use crate::operations::Operation;
-use crate::plan::{Entry, Plan};
-use crate::row::{Reach, Row};
-use crate::text::write_plan;
 use chex_base::{NoMemory, NodeId};
+use plan_type::{Budget, Costs, Entry, Operation, Plan, Reach, Row, write_plan};
 use sqlite_items::Items;
 use std::alloc::{AllocError, Global};
 use std::process::Abort;
@@ -90,10 +85,13 @@ fn plan<const N: usize>(alloc: Global, entries: [Entry<Plan>; N]) -> Result<Plan
     Ok(Plan::of(Items::from_vec(Vec::from_array(alloc, entries)?)))
 }
 
-/// A plan, and what is expected of it with a budget of three blocks of 4,096 bytes.
+/// A plan, and what is expected of it with a budget of three blocks of 4,096 bytes: its work, which
+/// is its cost where nothing has a price, and its cost at 4 steps for saving a block and 3 for
+/// loading one.
 struct Expected {
     name: &'static str,
-    cost: u64,
+    work: u64,
+    priced: u64,
     peak: u64,
     text: &'static str,
     operations: &'static str,
@@ -119,7 +117,7 @@ fn shown(alloc: Global, operations: &[Operation]) -> Result<String, AllocError> 
     Ok(all)
 }
 
-#[tactic(auto, using(crate::proofs::Writable::writable))]
+#[tactic(auto, using(plan_type::proofs::Writable::writable))]
 fn check(
     rt: &impl Abort,
     alloc: Global,
@@ -134,14 +132,23 @@ fn check(
     assert!(rt; costs.sound(), "{name}");
     let of_class = is_plan(alloc, &costs, plan)?;
     assert!(rt; of_class, "{name}");
-    assert_eq!(rt; plan.cost(&costs), expected.cost, "{name}");
     let budget = Budget {
         block: 4096,
         most: 3,
+        save: 0,
+        load: 0,
+    };
+    let priced = Budget {
+        save: 4,
+        load: 3,
+        ..budget
     };
     let peak = plan.peak(&costs, &budget);
     assert_eq!(rt; peak, expected.peak, "{name}");
     assert!(rt; peak <= 3, "{name}");
+    assert_eq!(rt; plan.work(&costs), expected.work, "{name}");
+    assert_eq!(rt; plan.cost(&costs, &budget), expected.work, "{name}");
+    assert_eq!(rt; plan.cost(&costs, &priced), expected.priced, "{name}");
     let operations = plan.operations(alloc, &costs, &budget)?;
     let operations = shown(alloc, operations.as_slice())?;
     assert_eq!(rt; operations.as_str(), expected.operations, "{name}");
@@ -178,7 +185,8 @@ const FAN_PLANS: [(u64, [bool; 3], Expected); 4] = [
         [false, false, false],
         Expected {
             name: "none held",
-            cost: 33,
+            work: 33,
+            priced: 33,
             peak: 0,
             text: "chex-plan 1\n1 1 free\n2 2 free\n2 3 free\n2 4 free\n",
             operations: "reset, compute 1 10, compute 2 1, reset, compute 1 10, compute 3 1, reset, compute 1 10, compute 4 1, ",
@@ -189,7 +197,8 @@ const FAN_PLANS: [(u64, [bool; 3], Expected); 4] = [
         [true, true, false],
         Expected {
             name: "held for two",
-            cost: 13,
+            work: 13,
+            priced: 23,
             peak: 1,
             text: "chex-plan 1\n1 1 free\n2 2 hold\n2 3 hold\n2 4 free\n",
             operations: "reset, compute 1 10, checkpoint 1 1, compute 2 1, restore 1, compute 3 1, restore 1, evict 1, compute 4 1, ",
@@ -200,7 +209,8 @@ const FAN_PLANS: [(u64, [bool; 3], Expected); 4] = [
         [true, true, false],
         Expected {
             name: "8,193 bytes are three blocks",
-            cost: 13,
+            work: 13,
+            priced: 43,
             peak: 3,
             text: "chex-plan 1\n1 1 free\n2 2 hold\n2 3 hold\n2 4 free\n",
             operations: "reset, compute 1 10, checkpoint 1 3, compute 2 1, restore 1, compute 3 1, restore 1, evict 1, compute 4 1, ",
@@ -211,7 +221,8 @@ const FAN_PLANS: [(u64, [bool; 3], Expected); 4] = [
         [true, false, true],
         Expected {
             name: "held for the first and the last",
-            cost: 23,
+            work: 23,
+            priced: 34,
             peak: 1,
             text: "chex-plan 1\n1 1 free\n2 2 hold\n2 3 free\n2 4 hold\n",
             operations: "reset, compute 1 10, checkpoint 1 1, compute 2 1, restore 1, evict 1, compute 3 1, reset, compute 1 10, checkpoint 1 1, compute 4 1, evict 1, ",
@@ -264,7 +275,8 @@ const DEEP_PLANS: [(bool, bool, [bool; 2], Expected); 3] = [
         [true, false],
         Expected {
             name: "each held in its turn",
-            cost: 33,
+            work: 33,
+            priced: 47,
             peak: 1,
             text: "chex-plan 1\n1 1 free\n2 3 hold\n2 2 free\n3 4 hold\n3 5 free\n",
             operations: "reset, compute 1 10, checkpoint 1 1, compute 3 1, restore 1, evict 1, compute 2 20, checkpoint 2 1, compute 4 1, restore 2, evict 2, compute 5 1, ",
@@ -276,7 +288,8 @@ const DEEP_PLANS: [(bool, bool, [bool; 2], Expected); 3] = [
         [false, false],
         Expected {
             name: "the first held for both",
-            cost: 53,
+            work: 53,
+            priced: 63,
             peak: 1,
             text: "chex-plan 1\n1 1 free\n2 2 hold\n3 4 free\n3 5 free\n2 3 hold\n",
             operations: "reset, compute 1 10, checkpoint 1 1, compute 2 20, compute 4 1, restore 1, compute 2 20, compute 5 1, restore 1, compute 3 1, evict 1, ",
@@ -288,7 +301,8 @@ const DEEP_PLANS: [(bool, bool, [bool; 2], Expected); 3] = [
         [true, true],
         Expected {
             name: "both held at once",
-            cost: 33,
+            work: 33,
+            priced: 47,
             peak: 2,
             text: "chex-plan 1\n1 1 free\n2 2 hold\n3 4 hold\n3 5 hold\n2 3 hold\n",
             operations: "reset, compute 1 10, checkpoint 1 1, compute 2 20, checkpoint 2 1, compute 4 1, restore 2, compute 5 1, evict 2, restore 1, compute 3 1, evict 1, ",

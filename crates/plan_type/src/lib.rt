@@ -4,13 +4,13 @@
 //! written.
 #![tactic(auto)]
 
-pub mod budget;
-pub mod costs;
-pub mod offer;
-pub mod operations;
-pub mod plan;
-pub mod row;
-pub mod text;
+mod budget;
+mod costs;
+mod offer;
+mod operations;
+mod plan;
+mod row;
+mod text;
 
 pub use budget::{Budget, price};
 pub use costs::{Costs, Rows};

@@ -7,15 +7,15 @@ use Rattle.plan_type.specs.declared.plan.Entry.{Entry}
 use Rattle.plan_checker.specs.declared.line.Line.{Line}
 use Rattle.plan_checker.specs.Lines.{IsSmall, AllFollow}
 
-abbrev pub entry_told : ℕ → Entry (ℕ → List Line) → List Line
-entry_told depth e = record { depth = depth; node = e.child; hold = e.hold } ∷ e.rest (depth + 1)
+abbrev pub entry_listed : ℕ → Entry (ℕ → List Line) → List Line
+entry_listed depth e = record { depth = depth; node = e.child; hold = e.hold } ∷ e.rest (depth + 1)
 
-abbrev pub layer_told : Plan-F (ℕ → List Line) → ℕ → List Line
-layer_told d depth = flat_map (entry_told depth) d.entries
+abbrev pub layer_listed : Plan-F (ℕ → List Line) → ℕ → List Line
+layer_listed d depth = flat_map (entry_listed depth) d.entries
 
 -- a line for each entry, parents first and lists in order; the children of a plan's node stand at this depth
-unfoldable pub told : Plan → ℕ → List Line
-told = fold-Plan (ℕ → List Line) layer_told
+unfoldable pub lines_of : Plan → ℕ → List Line
+lines_of = fold-Plan (ℕ → List Line) layer_listed
 
 -- ---- reading a plan from lines
 
