@@ -27,7 +27,7 @@ fn main(rt: HostRuntime) -> io::Result<()> {
     for word in env::args(&rt)?.skip(1) {
         words.push(word)?;
     }
-    let task = task(&words);
+    let task = task_of(&words);
     let costs = Costs {
         rows: Items::from_vec(rows(alloc, &task)?),
     };
@@ -52,7 +52,7 @@ fn main(rt: HostRuntime) -> io::Result<()> {
 }
 
 /// The task that the words name; a word that is missing or no number counts as 0.
-fn task(words: &[String]) -> Task {
+fn task_of(words: &[String]) -> Task {
     Task {
         brush: match words.first() {
             Some(shape) => shape.as_str() == "brush",
