@@ -10,7 +10,7 @@ use Rattle.plan_type.specs.PlanText.{text_of}
 use Rattle.plan_checker.specs.declared.line.Line.{Line}
 use Rattle.plan_checker.specs.Lines.{AllFollow, IsRead, spelled, head}
 use Rattle.plan_checker.specs.Refusals.{wrong_child}
-use Rattle.plan_checker.specs.Told.{told, IsUnder}
+use Rattle.plan_checker.specs.PlanLines.{lines_of, IsUnder}
 use Rattle.plan_checker.specs.Verdicts.{over_budget}
 use Rattle.plan_checker.proofs.Class.{class_top}
 use Rattle.plan_checker.proofs.Fits.{fits_top, text_top}
@@ -26,10 +26,10 @@ pub record Accepted (costs : Costs) (budget : Budget) (text : List ℕ) (p : Pla
   pub is : text ≡ text_of p
 
 pub accepted : (costs : Costs) (budget : Budget) (text : List ℕ) (lines table : List Line) (p : Plan) (n : ℕ) → IsRead text lines → table ≡ lines → wrong_child costs lines ≡ None → over_budget costs budget lines ≡ None
-    → told p (0 + 1) ≡ take n table → IsUnder 0 (drop n table) → Accepted costs budget text p
+    → lines_of p (0 + 1) ≡ take n table → IsUnder 0 (drop n table) → Accepted costs budget text p
 unfolding over_budget
 accepted costs budget text lines table p n read same right fits is under =
-    let whole : told p 1 ≡ lines = is ∙ ap (take n) same ∙ all_taken 0 lines n read.follow (subst (λ l. IsUnder 0 (drop n l)) same under) in
+    let whole : lines_of p 1 ≡ lines = is ∙ ap (take n) same ∙ all_taken 0 lines n read.follow (subst (λ l. IsUnder 0 (drop n l)) same under) in
     record {
       serves = record {
         plan = class_top costs p (subst (AllFollow 0) (sym whole) read.follow) (ap (wrong_child costs) whole ∙ right);

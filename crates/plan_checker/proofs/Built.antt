@@ -9,28 +9,28 @@ use Rattle.plan_type.specs.Plan.{entries_of}
 use Rattle.plan_type.proofs.PlanParts.{later}
 use Rattle.plan_checker.specs.declared.line.Line.{Line}
 use Rattle.plan_checker.specs.Lines.{AllFollow}
-use Rattle.plan_checker.specs.Told.{entry_told, layer_told, told, is_at, IsUnder, IsChain}
+use Rattle.plan_checker.specs.PlanLines.{entry_listed, layer_listed, lines_of, is_at, IsUnder, IsChain}
 
 -- the lines of one entry, over whole plans
-unfoldable pub rest_told : ℕ → Entry Plan → List Line
-rest_told depth e = record { depth = depth; node = e.child; hold = e.hold } ∷ told e.rest (depth + 1)
+unfoldable pub rest_listed : ℕ → Entry Plan → List Line
+rest_listed depth e = record { depth = depth; node = e.child; hold = e.hold } ∷ lines_of e.rest (depth + 1)
 
-told_again : (g : Plan → ℕ → List Line) (depth : ℕ) (es : List (Entry Plan)) → flat_map (entry_told depth) (later g es) ≡ flat_map (λ e. record { depth = depth; node = e.child; hold = e.hold } ∷ g e.rest (depth + 1)) es
-told_again g depth [] = refl
-told_again g depth (e ∷ es) = ap (λ l. (record { depth = depth; node = e.child; hold = e.hold } ∷ g e.rest (depth + 1)) ++ l) (told_again g depth es)
+listed_again : (g : Plan → ℕ → List Line) (depth : ℕ) (es : List (Entry Plan)) → flat_map (entry_listed depth) (later g es) ≡ flat_map (λ e. record { depth = depth; node = e.child; hold = e.hold } ∷ g e.rest (depth + 1)) es
+listed_again g depth [] = refl
+listed_again g depth (e ∷ es) = ap (λ l. (record { depth = depth; node = e.child; hold = e.hold } ∷ g e.rest (depth + 1)) ++ l) (listed_again g depth es)
 
-pub told_parts : (p : Plan) (depth : ℕ) → told p depth ≡ flat_map (rest_told depth) (entries_of p)
-unfolding told rest_told
-told_parts p depth = ap (λ f. f depth) (fold_out-Plan (ℕ → List Line) layer_told p) ∙ told_again told depth (entries_of p)
+pub listed_parts : (p : Plan) (depth : ℕ) → lines_of p depth ≡ flat_map (rest_listed depth) (entries_of p)
+unfolding lines_of rest_listed
+listed_parts p depth = ap (λ f. f depth) (fold_out-Plan (ℕ → List Line) layer_listed p) ∙ listed_again lines_of depth (entries_of p)
 
 pub record BuildSo (lines : List Line) (above at : ℕ) (entries : List (Entry Plan)) : Type 0 where
   pub within : at ≤ length lines
-  pub told_is : flat_map (rest_told (above + 1)) entries ≡ take at lines
+  pub listed_is : flat_map (rest_listed (above + 1)) entries ≡ take at lines
   pub chain : IsChain (drop at lines)
   pub under : IsUnder (above + 1) (drop at lines)
 
 pub build_begin : (lines : List Line) (above : ℕ) → IsChain lines → IsUnder (above + 1) lines → BuildSo lines above 0 []
-build_begin lines above chain under = record { within = omega arith; told_is = refl; chain = chain; under = under }
+build_begin lines above chain under = record { within = omega arith; listed_is = refl; chain = chain; under = under }
 
 -- what is known where a line of the depth stands
 pub record Next (lines : List Line) (above at : ℕ) : Type 0 where
@@ -66,27 +66,27 @@ next lines above at es so here = found lines at so.chain here
         record { within = omega (arith, w); shallow = n.shallow; depth = n.depth; chain = subst IsChain step n.chain; under = subst (IsUnder (above + 1 + 1)) step n.under }
 
 pub build_more : (lines rest : List Line) (above at taken : ℕ) (es now : List (Entry Plan)) (line : Line) (p : Plan) → BuildSo lines above at es → Next lines above at → line ≡ get_or lines at line → rest ≡ drop (at + 1) lines
-    → taken ≤ length rest → told p (above + 1 + 1) ≡ take taken rest → IsChain (drop taken rest) → IsUnder (above + 1) (drop taken rest)
+    → taken ≤ length rest → lines_of p (above + 1 + 1) ≡ take taken rest → IsChain (drop taken rest) → IsUnder (above + 1) (drop taken rest)
     → now ≡ es ++ record { child = line.node; hold = line.hold; rest = p } ∷ [] → BuildSo lines above (at + (1 + taken)) now
-unfolding rest_told
-build_more lines rest above at taken es now line p so here line_is rest_is low told_is chain under now_is =
+unfolding rest_listed
+build_more lines rest above at taken es now line p so here line_is rest_is low listed_is chain under now_is =
     let w = here.within in
     let size = ap length rest_is ∙ length-drop (at + 1) lines in
     let past : drop taken rest ≡ drop (at + (1 + taken)) lines = ap (drop taken) rest_is ∙ drop-drop taken (at + 1) lines ∙ ap (λ n. drop n lines) (let e : at + 1 + taken ≡ at + (1 + taken) = omega arith in e) in
     record {
       within = omega (arith, w, low, size);
-      told_is = ap (flat_map (rest_told (above + 1))) now_is ∙ pushed es (record { child = line.node; hold = line.hold; rest = p })
-          ∙ ap (λ l. l ++ (record { depth = above + 1; node = line.node; hold = line.hold } ∷ told p (above + 1 + 1))) so.told_is
-          ∙ ap (λ l. take at lines ++ (record { depth = above + 1; node = line.node; hold = line.hold } ∷ l)) (told_is ∙ ap (take taken) rest_is)
+      listed_is = ap (flat_map (rest_listed (above + 1))) now_is ∙ pushed es (record { child = line.node; hold = line.hold; rest = p })
+          ∙ ap (λ l. l ++ (record { depth = above + 1; node = line.node; hold = line.hold } ∷ lines_of p (above + 1 + 1))) so.listed_is
+          ∙ ap (λ l. take at lines ++ (record { depth = above + 1; node = line.node; hold = line.hold } ∷ l)) (listed_is ∙ ap (take taken) rest_is)
           ∙ ap (λ d. take at lines ++ (record { depth = d; node = line.node; hold = line.hold } ∷ take taken (drop (at + 1) lines))) (sym (ap (λ x. x.depth) line_is ∙ here.depth line))
           ∙ joined lines at taken line w line_is;
       chain = subst IsChain past chain;
       under = subst (IsUnder (above + 1)) past under;
     }
   where
-    pushed : (xs : List (Entry Plan)) (y : Entry Plan) → flat_map (rest_told (above + 1)) (xs ++ y ∷ []) ≡ flat_map (rest_told (above + 1)) xs ++ rest_told (above + 1) y
-    pushed [] y = append-nil (rest_told (above + 1) y)
-    pushed (x ∷ xs) y = ap (λ l. rest_told (above + 1) x ++ l) (pushed xs y) ∙ sym (append_assoc (rest_told (above + 1) x) (flat_map (rest_told (above + 1)) xs) (rest_told (above + 1) y))
+    pushed : (xs : List (Entry Plan)) (y : Entry Plan) → flat_map (rest_listed (above + 1)) (xs ++ y ∷ []) ≡ flat_map (rest_listed (above + 1)) xs ++ rest_listed (above + 1) y
+    pushed [] y = append-nil (rest_listed (above + 1) y)
+    pushed (x ∷ xs) y = ap (λ l. rest_listed (above + 1) x ++ l) (pushed xs y) ∙ sym (append_assoc (rest_listed (above + 1) x) (flat_map (rest_listed (above + 1)) xs) (rest_listed (above + 1) y))
 
     joined : (xs : List Line) (at taken : ℕ) (line : Line) → at < length xs → line ≡ get_or xs at line → take at xs ++ (line ∷ take taken (drop (at + 1) xs)) ≡ take (at + (1 + taken)) xs
     joined [] at taken line lt is = absurd (omega arith)
@@ -96,9 +96,9 @@ build_more lines rest above at taken es now line p so here line_is rest_is low t
         ∙ ap (λ l. x ∷ l) (joined xs at taken line (omega arith) is) ∙ ap (λ n. take n (x ∷ xs)) (let e : suc (at + (1 + taken)) ≡ suc at + (1 + taken) = omega arith in e)
 
 pub build_all : (lines : List Line) (above at : ℕ) (es : List (Entry Plan)) (p : Plan) → BuildSo lines above at es → is_at (above + 1) (drop at lines) ≡ false → entries_of p ≡ es
-    → (told p (above + 1) ≡ take at lines) × IsChain (drop at lines) × IsUnder above (drop at lines)
+    → (lines_of p (above + 1) ≡ take at lines) × IsChain (drop at lines) × IsUnder above (drop at lines)
 build_all lines above at es p so past is = (
-  told_parts p (above + 1) ∙ ap (flat_map (rest_told (above + 1))) is ∙ so.told_is,
+  listed_parts p (above + 1) ∙ ap (flat_map (rest_listed (above + 1))) is ∙ so.listed_is,
   so.chain,
   low (drop at lines) so.under past,
 )

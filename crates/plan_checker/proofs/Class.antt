@@ -13,11 +13,11 @@ use Rattle.plan_type.proofs.Tested.{plan_seen}
 use Rattle.plan_type.proofs.Sound.{child_parent}
 use Rattle.plan_type.proofs.Led.{row_within}
 use Rattle.plan_checker.specs.declared.line.Line.{Line}
-use Rattle.plan_checker.specs.Told.{told}
+use Rattle.plan_checker.specs.PlanLines.{lines_of}
 use Rattle.plan_checker.specs.Refusals.{last_at, stands, first_wrong, least_missing, or_else, wrong_child}
 use Rattle.plan_checker.specs.Lines.{AllFollow, last_depth}
 use Rattle.plan_checker.proofs.Tables.{onto}
-use Rattle.plan_checker.proofs.Built.{rest_told, told_parts}
+use Rattle.plan_checker.proofs.Built.{rest_listed, listed_parts}
 use Rattle.plan_checker.proofs.Numbered.{has, Once, orders, has_kept, kept_has, once_kept}
 use Rattle.plan_checker.proofs.Owners.{Rooted, Distinct, Owned, same_node, equal_node, or_true, or_cases, or_neither, both, stands_append, distinct_left, distinct_right, distinct_across, rooted_after, entry_child, inner_rooted, inner_last, more_last, owned, owned_list, unrefused, distinct}
 
@@ -42,13 +42,13 @@ ClosedFrom costs u lines = (w v : ℕ) → (w ≡ u) ⊎ (stands w lines ≡ tru
 
 module _ (costs : Costs) where
   InClass : Plan → Type 0
-  InClass p = (u depth : ℕ) (before : List Line) → 1 ≤ depth → last_at (depth - 1) before ≡ u → Rooted costs before (told p depth) → Distinct (told p depth) → stands u (told p depth) ≡ false → ClosedFrom costs u (told p depth)
+  InClass p = (u depth : ℕ) (before : List Line) → 1 ≤ depth → last_at (depth - 1) before ≡ u → Rooted costs before (lines_of p depth) → Distinct (lines_of p depth) → stands u (lines_of p depth) ≡ false → ClosedFrom costs u (lines_of p depth)
       → IsPlanOf (children_of costs) u p
 
   -- one entry and the entries after it, as lists of lines
   module _ (u depth : ℕ) (e : Entry Plan) (more : List Line) where
     abbrev inner : List Line
-    inner = told e.rest (depth + 1)
+    inner = lines_of e.rest (depth + 1)
 
     abbrev line : Line
     line = record { depth = depth; node = e.child; hold = e.hold }
@@ -102,51 +102,51 @@ module _ (costs : Costs) where
     to : (v : ℕ) → stands v lines ≡ true → is_child_in u (row_of costs v) ≡ true → has v (named es) ≡ true
     from : (v : ℕ) → has v (named es) ≡ true → stands v lines ≡ true
 
-  each_class : (u depth : ℕ) (es : List (Entry Plan)) → AllByRecursion (λ e. InClass e.rest) es → (before : List Line) → 1 ≤ depth → last_at (depth - 1) before ≡ u → Rooted costs before (flat_map (rest_told depth) es)
-      → Distinct (flat_map (rest_told depth) es) → stands u (flat_map (rest_told depth) es) ≡ false → Closed costs (flat_map (rest_told depth) es) → Entries u (flat_map (rest_told depth) es) es
-  unfolding InClass rest_told
+  each_class : (u depth : ℕ) (es : List (Entry Plan)) → AllByRecursion (λ e. InClass e.rest) es → (before : List Line) → 1 ≤ depth → last_at (depth - 1) before ≡ u → Rooted costs before (flat_map (rest_listed depth) es)
+      → Distinct (flat_map (rest_listed depth) es) → stands u (flat_map (rest_listed depth) es) ≡ false → Closed costs (flat_map (rest_listed depth) es) → Entries u (flat_map (rest_listed depth) es) es
+  unfolding InClass rest_listed
   each_class u depth [] h before some last rooted once absent closed = record { rests = tt; all = tt; once = tt; to = (λ v there child. absurd (cc)); from = (λ v there. absurd (cc)) }
   each_class u depth (e ∷ es) h before some last rooted once absent closed =
-      let more = flat_map (rest_told depth) es in
+      let more = flat_map (rest_listed depth) es in
       let child = entry_child costs u depth before more e last rooted in
       let down = inner_rooted costs depth before more e rooted in
-      let on = rooted_after costs before (rest_told depth e) more rooted in
+      let on = rooted_after costs before (rest_listed depth e) more rooted in
       let on_last = more_last costs u depth before e some last in
       let inside = owned costs e.rest e.child (depth + 1) (line u depth e more ∷ before) (omega arith) (inner_last costs depth before e) down in
-      let others = owned_list costs u depth es (onto (rest_told depth e) before) some on_last on in
+      let others = owned_list costs u depth es (onto (rest_listed depth e) before) some on_last on in
       let first = h.0 e.child (depth + 1) (line u depth e more ∷ before) (omega arith) (inner_last costs depth before e) down (distinct_left (inner u depth e more) more once.1)
       (or_neither (stands e.child (inner u depth e more)) (stands e.child more) (sym (stands_append e.child (inner u depth e more) more) ∙ once.0)).0 (inner_closed u depth e more child others once absent closed) in
-      let later = each_class u depth es h.1 (onto (rest_told depth e) before) some on_last on (distinct_right (rest_told depth e) more once)
-      (or_neither (stands u (rest_told depth e)) (stands u more) (sym (stands_append u (rest_told depth e) more) ∙ absent)).1 (more_closed u depth e more child inside once absent closed) in
+      let later = each_class u depth es h.1 (onto (rest_listed depth e) before) some on_last on (distinct_right (rest_listed depth e) more once)
+      (or_neither (stands u (rest_listed depth e)) (stands u more) (sym (stands_append u (rest_listed depth e) more) ∙ absent)).1 (more_closed u depth e more child inside once absent closed) in
       joined child first inside later
     where
-      joined : is_child_in u (row_of costs e.child) ≡ true → IsPlanOf (children_of costs) e.child e.rest → Owned costs e.child (told e.rest (depth + 1)) → Entries u (flat_map (rest_told depth) es) es → Entries u (rest_told depth e ++ (flat_map (rest_told depth) es)) (e ∷ es)
+      joined : is_child_in u (row_of costs e.child) ≡ true → IsPlanOf (children_of costs) e.child e.rest → Owned costs e.child (lines_of e.rest (depth + 1)) → Entries u (flat_map (rest_listed depth) es) es → Entries u (rest_listed depth e ++ (flat_map (rest_listed depth) es)) (e ∷ es)
       joined child first inside later = record {
         rests = (first, later.rests);
         all = (child, later.all);
         once = (new (has e.child (named es)) refl, later.once);
-        to = λ v there c. (by_line v c (or_cases (stands v (rest_told depth e)) (stands v (flat_map (rest_told depth) es)) (sym (stands_append v (rest_told depth e) (flat_map (rest_told depth) es)) ∙ there)));
-        from = λ v there. (stands_append v (rest_told depth e) (flat_map (rest_told depth) es) ∙ by_name v (or_cases (e.child == v) (has v (named es)) there));
+        to = λ v there c. (by_line v c (or_cases (stands v (rest_listed depth e)) (stands v (flat_map (rest_listed depth) es)) (sym (stands_append v (rest_listed depth e) (flat_map (rest_listed depth) es)) ∙ there)));
+        from = λ v there. (stands_append v (rest_listed depth e) (flat_map (rest_listed depth) es) ∙ by_name v (or_cases (e.child == v) (has v (named es)) there));
       }
         where
           new : (b : Bool) → has e.child (named es) ≡ b → b ≡ false
-          new true is = absurd (both (stands e.child (flat_map (rest_told depth) es)) (later.from e.child is) (or_neither (stands e.child (told e.rest (depth + 1))) (stands e.child (flat_map (rest_told depth) es)) (sym (stands_append e.child (told e.rest (depth + 1)) (flat_map (rest_told depth) es)) ∙ once.0)).1)
+          new true is = absurd (both (stands e.child (flat_map (rest_listed depth) es)) (later.from e.child is) (or_neither (stands e.child (lines_of e.rest (depth + 1))) (stands e.child (flat_map (rest_listed depth) es)) (sym (stands_append e.child (lines_of e.rest (depth + 1)) (flat_map (rest_listed depth) es)) ∙ once.0)).1)
           new false is = refl
 
-          own : (v : ℕ) → is_child_in u (row_of costs v) ≡ true → ((e.child == v) ≡ true) ⊎ (stands v (told e.rest (depth + 1)) ≡ true) → has v (named (e ∷ es)) ≡ true
+          own : (v : ℕ) → is_child_in u (row_of costs v) ≡ true → ((e.child == v) ≡ true) ⊎ (stands v (lines_of e.rest (depth + 1)) ≡ true) → has v (named (e ∷ es)) ≡ true
           own v c (inl is) = ap (λ b. b || has v (named es)) is
           own v c (inr there) =
               let o = inside v there in
-              absurd (both (stands u (rest_told depth e)) (subst (λ k. stands k (rest_told depth e) ≡ true) (one_parent (row_of costs v) o.node u o.child c) (seen_inner u depth e (flat_map (rest_told depth) es) o.node o.place))
-              (or_neither (stands u (rest_told depth e)) (stands u (flat_map (rest_told depth) es)) (sym (stands_append u (rest_told depth e) (flat_map (rest_told depth) es)) ∙ absent)).0)
+              absurd (both (stands u (rest_listed depth e)) (subst (λ k. stands k (rest_listed depth e) ≡ true) (one_parent (row_of costs v) o.node u o.child c) (seen_inner u depth e (flat_map (rest_listed depth) es) o.node o.place))
+              (or_neither (stands u (rest_listed depth e)) (stands u (flat_map (rest_listed depth) es)) (sym (stands_append u (rest_listed depth e) (flat_map (rest_listed depth) es)) ∙ absent)).0)
 
-          by_line : (v : ℕ) → is_child_in u (row_of costs v) ≡ true → (stands v (rest_told depth e) ≡ true) ⊎ (stands v (flat_map (rest_told depth) es) ≡ true) → has v (named (e ∷ es)) ≡ true
-          by_line v c (inl there) = own v c (or_cases (e.child == v) (stands v (told e.rest (depth + 1))) there)
+          by_line : (v : ℕ) → is_child_in u (row_of costs v) ≡ true → (stands v (rest_listed depth e) ≡ true) ⊎ (stands v (flat_map (rest_listed depth) es) ≡ true) → has v (named (e ∷ es)) ≡ true
+          by_line v c (inl there) = own v c (or_cases (e.child == v) (stands v (lines_of e.rest (depth + 1))) there)
           by_line v c (inr there) = or_true (e.child == v) (has v (named es)) (later.to v there c)
 
-          by_name : (v : ℕ) → ((e.child == v) ≡ true) ⊎ (has v (named es) ≡ true) → (stands v (rest_told depth e) || stands v (flat_map (rest_told depth) es)) ≡ true
-          by_name v (inl is) = ap (λ b. b || stands v (flat_map (rest_told depth) es)) (seen_inner u depth e (flat_map (rest_told depth) es) v (inl (sym (equal_node e.child v is))))
-          by_name v (inr there) = or_true (stands v (rest_told depth e)) (stands v (flat_map (rest_told depth) es)) (later.from v there)
+          by_name : (v : ℕ) → ((e.child == v) ≡ true) ⊎ (has v (named es) ≡ true) → (stands v (rest_listed depth e) || stands v (flat_map (rest_listed depth) es)) ≡ true
+          by_name v (inl is) = ap (λ b. b || stands v (flat_map (rest_listed depth) es)) (seen_inner u depth e (flat_map (rest_listed depth) es) v (inl (sym (equal_node e.child v is))))
+          by_name v (inr there) = or_true (stands v (rest_listed depth e)) (stands v (flat_map (rest_listed depth) es)) (later.from v there)
 
   named_child : (u : ℕ) (es : List (Entry Plan)) → AllByRecursion (λ e. is_child_in u (row_of costs e.child) ≡ true) es → (v : ℕ) → has v (named es) ≡ true → is_child_in u (row_of costs v) ≡ true
   named_child u [] all v h = absurd (cc)
@@ -159,7 +159,7 @@ module _ (costs : Costs) where
   class_by : (p : Plan) → AllByRecursion (λ e. InClass e.rest) (entries_of p) → InClass p
   unfolding InClass
   class_by p h u depth before some last rooted once absent closed =
-      let parts = told_parts p depth in
+      let parts = listed_parts p depth in
       let closed' = subst (ClosedFrom costs u) parts closed in
       let got = each_class u depth (entries_of p) h before some last (subst (Rooted costs before) parts rooted) (subst Distinct parts once) (subst (λ l. stands u l ≡ false) parts absent) (λ w v at is. closed' w v (inr at) is) in
       plan_seen (children_of costs) u p (children_of costs u) got.rests
@@ -212,19 +212,19 @@ module _ (costs : Costs) where
   follow_after before [] ys all = all
   follow_after before (x ∷ xs) ys all = follow_after x.depth xs ys all.1
 
-  none_held : (es : List (Entry Plan)) (before : ℕ) → AllFollow before (flat_map (rest_told 1) es) → HoldsNone es
-  unfolding rest_told
+  none_held : (es : List (Entry Plan)) (before : ℕ) → AllFollow before (flat_map (rest_listed 1) es) → HoldsNone es
+  unfolding rest_listed
   none_held [] before all = tt
-  none_held (e ∷ es) before all = (all.0.root refl, none_held es _ (follow_after before (rest_told 1 e) (flat_map (rest_told 1) es) all))
+  none_held (e ∷ es) before all = (all.0.root refl, none_held es _ (follow_after before (rest_listed 1 e) (flat_map (rest_listed 1) es) all))
 
-  pub class_top : (p : Plan) → AllFollow 0 (told p 1) → wrong_child costs (told p 1) ≡ None → IsPlan costs p
+  pub class_top : (p : Plan) → AllFollow 0 (lines_of p 1) → wrong_child costs (lines_of p 1) ≡ None → IsPlan costs p
   unfolding InClass wrong_child
   class_top p follow none =
-      let (first, missing) = neither (first_wrong costs [] (told p 1)) (least_missing costs (told p 1)) none in
-      let (rooted, fresh) = unrefused costs [] (told p 1) first in
+      let (first, missing) = neither (first_wrong costs [] (lines_of p 1)) (least_missing costs (lines_of p 1)) none in
+      let (rooted, fresh) = unrefused costs [] (lines_of p 1) first in
       record {
-        orders = induct InClass class_by p 0 1 [] (omega arith) refl rooted (distinct [] (told p 1) fresh) (rooted_zero [] (told p 1) rooted) (λ w v at is. all_stand (told p 1) missing w v is);
-        holds_none = none_held (entries_of p) 0 (subst (AllFollow 0) (told_parts p 1) follow);
+        orders = induct InClass class_by p 0 1 [] (omega arith) refl rooted (distinct [] (lines_of p 1) fresh) (rooted_zero [] (lines_of p 1) rooted) (λ w v at is. all_stand (lines_of p 1) missing w v is);
+        holds_none = none_held (entries_of p) 0 (subst (AllFollow 0) (listed_parts p 1) follow);
       }
     where
       neither : (a b : Option ℕ) → or_else a b ≡ None → (a ≡ None) × (b ≡ None)

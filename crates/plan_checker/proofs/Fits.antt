@@ -11,11 +11,11 @@ use Rattle.plan_type.proofs.PlanParts.{induct, rest_peak, peak_parts}
 use Rattle.plan_type.proofs.Lines.{rest_lines, lines_parts}
 use Rattle.plan_checker.specs.declared.line.Line.{Line}
 use Rattle.plan_checker.specs.Lines.{spelled, head}
-use Rattle.plan_checker.specs.Told.{told}
+use Rattle.plan_checker.specs.PlanLines.{lines_of}
 use Rattle.plan_checker.specs.Refusals.{last_at, parent_at, held_at, first_over}
 use Rattle.plan_checker.proofs.Tables.{onto}
-use Rattle.plan_checker.proofs.Built.{rest_told, told_parts}
-use Rattle.plan_checker.proofs.Owners.{Deep, deep_told, last_past, same_node}
+use Rattle.plan_checker.proofs.Built.{rest_listed, listed_parts}
+use Rattle.plan_checker.proofs.Owners.{Deep, deep_listed, last_past, same_node}
 
 module _ (blocks : ℕ → ℕ) (most : ℕ) where
   abbrev Unpassed : List Line → List Line → Type 0
@@ -53,7 +53,7 @@ module _ (blocks : ℕ → ℕ) (most : ℕ) where
       other d k lt = grind (arith, nat_tests)
 
   Fitting : Plan → Type 0
-  Fitting p = (u depth used : ℕ) (before : List Line) → 1 ≤ depth → last_at (depth - 1) before ≡ u → held_at blocks (depth - 1) before ≡ used → used ≤ most → Unpassed before (told p depth) → peak_at blocks p u used ≤ most
+  Fitting p = (u depth used : ℕ) (before : List Line) → 1 ≤ depth → last_at (depth - 1) before ≡ u → held_at blocks (depth - 1) before ≡ used → used ≤ most → Unpassed before (lines_of p depth) → peak_at blocks p u used ≤ most
 
   -- what is held under an entry
   held_here : (u depth used : ℕ) (before : List Line) (e : Entry Plan) → last_at (depth - 1) before ≡ u → held_at blocks (depth - 1) before ≡ used
@@ -66,18 +66,18 @@ module _ (blocks : ℕ → ℕ) (most : ℕ) where
       by false = omega (arith, held)
 
   each_fits : (u depth used : ℕ) (es : List (Entry Plan)) → AllByRecursion (λ e. Fitting e.rest) es → (before : List Line) → 1 ≤ depth → last_at (depth - 1) before ≡ u → held_at blocks (depth - 1) before ≡ used → used ≤ most
-      → Unpassed before (flat_map (rest_told depth) es) → greatest (rest_peak blocks u used) used es ≤ most
-  unfolding Fitting rest_told rest_peak
+      → Unpassed before (flat_map (rest_listed depth) es) → greatest (rest_peak blocks u used) used es ≤ most
+  unfolding Fitting rest_listed rest_peak
   each_fits u depth used [] h before some last held le free = le
   each_fits u depth used (e ∷ es) h before some last held le free =
       let line : Line = record { depth = depth; node = e.child; hold = e.hold } in
-      let more = flat_map (rest_told depth) es in
+      let more = flat_map (rest_listed depth) es in
       let under = held_here u depth used before e last held in
       let here : held_at blocks (depth + 1 - 1) (line ∷ before) ≡ (if e.hold then used + blocks u else used) = ap (λ n. held_at blocks n (line ∷ before)) (let s : depth + 1 - 1 ≡ depth = omega arith in s) ∙ under in
       let first = h.0 e.child (depth + 1) (if e.hold then used + blocks u else used) (line ∷ before) (omega arith) (ap (λ n. last_at n (line ∷ before)) (let s : depth + 1 - 1 ≡ depth = omega arith in s) ∙ ap (λ b. if b then e.child else last_at depth before) (same_node depth))
-      here (low e.hold (λ is. subst (λ n. n ≤ most) under (free.0 is)) le) (unpassed_front (line ∷ before) (told e.rest (depth + 1)) more free.1) in
-      let later = each_fits u depth used es h.1 (onto (rest_told depth e) before) some (last_past (depth - 1) depth (rest_told depth e) before (deep_told depth e) (omega arith) ∙ last)
-      (held_past (depth - 1) depth (rest_told depth e) before (deep_told depth e) (omega arith) ∙ held) le (unpassed_after before (rest_told depth e) more free) in
+      here (low e.hold (λ is. subst (λ n. n ≤ most) under (free.0 is)) le) (unpassed_front (line ∷ before) (lines_of e.rest (depth + 1)) more free.1) in
+      let later = each_fits u depth used es h.1 (onto (rest_listed depth e) before) some (last_past (depth - 1) depth (rest_listed depth e) before (deep_listed depth e) (omega arith) ∙ last)
+      (held_past (depth - 1) depth (rest_listed depth e) before (deep_listed depth e) (omega arith) ∙ held) le (unpassed_after before (rest_listed depth e) more free) in
       omega (arith, first, later)
     where
       low : (hold : Bool) → (hold ≡ true → (if hold then used + blocks u else used) ≤ most) → used ≤ most → (if hold then used + blocks u else used) ≤ most
@@ -87,32 +87,32 @@ module _ (blocks : ℕ → ℕ) (most : ℕ) where
   fits_by : (p : Plan) → AllByRecursion (λ e. Fitting e.rest) (entries_of p) → Fitting p
   unfolding Fitting
   fits_by p h u depth used before some last held le free =
-      rw (peak_parts blocks p u used) (each_fits u depth used (entries_of p) h before some last held le (subst (Unpassed before) (told_parts p depth) free))
+      rw (peak_parts blocks p u used) (each_fits u depth used (entries_of p) h before some last held le (subst (Unpassed before) (listed_parts p depth) free))
 
-  pub fits_top : (p : Plan) → first_over blocks most [] (told p 1) ≡ None → peak_at blocks p 0 0 ≤ most
+  pub fits_top : (p : Plan) → first_over blocks most [] (lines_of p 1) ≡ None → peak_at blocks p 0 0 ≤ most
   unfolding Fitting
-  fits_top p none = induct Fitting fits_by p 0 1 0 [] (omega arith) refl refl (omega arith) (unpassed [] (told p 1) none)
+  fits_top p none = induct Fitting fits_by p 0 1 0 [] (omega arith) refl refl (omega arith) (unpassed [] (lines_of p 1) none)
 
 -- ---- the text
 
 Spells : Plan → Type 0
-Spells p = (depth : ℕ) → lines_at p depth ≡ flat_map spelled (told p depth)
+Spells p = (depth : ℕ) → lines_at p depth ≡ flat_map spelled (lines_of p depth)
 
 spelled_append : (xs ys : List Line) → flat_map spelled (xs ++ ys) ≡ flat_map spelled xs ++ flat_map spelled ys
 spelled_append [] ys = refl
 spelled_append (x ∷ xs) ys = ap (λ l. spelled x ++ l) (spelled_append xs ys) ∙ sym (append_assoc (spelled x) (flat_map spelled xs) (flat_map spelled ys))
 
-each_spells : (depth : ℕ) (es : List (Entry Plan)) → AllByRecursion (λ e. Spells e.rest) es → flat_map (rest_lines depth) es ≡ flat_map spelled (flat_map (rest_told depth) es)
-unfolding Spells rest_lines rest_told
+each_spells : (depth : ℕ) (es : List (Entry Plan)) → AllByRecursion (λ e. Spells e.rest) es → flat_map (rest_lines depth) es ≡ flat_map spelled (flat_map (rest_listed depth) es)
+unfolding Spells rest_lines rest_listed
 each_spells depth [] h = refl
 each_spells depth (e ∷ es) h =
-    ap (λ l. (line_of depth e.child e.hold ++ l) ++ flat_map (rest_lines depth) es) (h.0 (depth + 1)) ∙ ap (λ l. flat_map spelled (rest_told depth e) ++ l) (each_spells depth es h.1)
-    ∙ sym (spelled_append (rest_told depth e) (flat_map (rest_told depth) es))
+    ap (λ l. (line_of depth e.child e.hold ++ l) ++ flat_map (rest_lines depth) es) (h.0 (depth + 1)) ∙ ap (λ l. flat_map spelled (rest_listed depth e) ++ l) (each_spells depth es h.1)
+    ∙ sym (spelled_append (rest_listed depth e) (flat_map (rest_listed depth) es))
 
 spells_by : (p : Plan) → AllByRecursion (λ e. Spells e.rest) (entries_of p) → Spells p
 unfolding Spells
-spells_by p h depth = lines_parts p depth ∙ each_spells depth (entries_of p) h ∙ ap (flat_map spelled) (sym (told_parts p depth))
+spells_by p h depth = lines_parts p depth ∙ each_spells depth (entries_of p) h ∙ ap (flat_map spelled) (sym (listed_parts p depth))
 
-pub text_top : (p : Plan) → text_of p ≡ head ++ flat_map spelled (told p 1)
+pub text_top : (p : Plan) → text_of p ≡ head ++ flat_map spelled (lines_of p 1)
 unfolding text_of head Spells
 text_top p = ap (λ l. head ++ l) (induct Spells spells_by p 1)

@@ -10,10 +10,10 @@ use Rattle.plan_type.specs.Costs.{row_of, is_child_in}
 use Rattle.plan_type.specs.Plan.{entries_of}
 use Rattle.plan_type.proofs.PlanParts.{induct}
 use Rattle.plan_checker.specs.declared.line.Line.{Line}
-use Rattle.plan_checker.specs.Told.{told}
+use Rattle.plan_checker.specs.PlanLines.{lines_of}
 use Rattle.plan_checker.specs.Refusals.{last_at, parent_at, stands, first_wrong}
 use Rattle.plan_checker.proofs.Tables.{onto}
-use Rattle.plan_checker.proofs.Built.{rest_told, told_parts}
+use Rattle.plan_checker.proofs.Built.{rest_listed, listed_parts}
 
 abbrev pub Rooted : Costs → List Line → List Line → Type 0
 Rooted costs before [] = Unit {0}
@@ -120,22 +120,22 @@ deep_less depth [] a = tt
 deep_less depth (x ∷ xs) a = (let h = a.0 in omega (arith, h), deep_less depth xs a.1)
 
 IsDeep : Plan → Type 0
-IsDeep p = (depth : ℕ) → Deep depth (told p depth)
+IsDeep p = (depth : ℕ) → Deep depth (lines_of p depth)
 
-deep_entry : (depth : ℕ) (e : Entry Plan) → IsDeep e.rest → Deep depth (rest_told depth e)
-unfolding rest_told IsDeep
-deep_entry depth e deep = (omega arith, deep_less depth (told e.rest (depth + 1)) (deep (depth + 1)))
+deep_entry : (depth : ℕ) (e : Entry Plan) → IsDeep e.rest → Deep depth (rest_listed depth e)
+unfolding rest_listed IsDeep
+deep_entry depth e deep = (omega arith, deep_less depth (lines_of e.rest (depth + 1)) (deep (depth + 1)))
 
 deep_by : (p : Plan) → AllByRecursion (λ e. IsDeep e.rest) (entries_of p) → IsDeep p
 unfolding IsDeep
-deep_by p deep depth = subst (Deep depth) (sym (told_parts p depth)) (each (entries_of p) deep)
+deep_by p deep depth = subst (Deep depth) (sym (listed_parts p depth)) (each (entries_of p) deep)
   where
-    each : (es : List (Entry Plan)) → AllByRecursion (λ e. IsDeep e.rest) es → Deep depth (flat_map (rest_told depth) es)
+    each : (es : List (Entry Plan)) → AllByRecursion (λ e. IsDeep e.rest) es → Deep depth (flat_map (rest_listed depth) es)
     each [] h = tt
-    each (e ∷ es) h = deep_append depth (rest_told depth e) (flat_map (rest_told depth) es) (deep_entry depth e h.0) (each es h.1)
+    each (e ∷ es) h = deep_append depth (rest_listed depth e) (flat_map (rest_listed depth) es) (deep_entry depth e h.0) (each es h.1)
 
-pub deep_told : (depth : ℕ) (e : Entry Plan) → Deep depth (rest_told depth e)
-deep_told depth e = deep_entry depth e (induct IsDeep deep_by e.rest)
+pub deep_listed : (depth : ℕ) (e : Entry Plan) → Deep depth (rest_listed depth e)
+deep_listed depth e = deep_entry depth e (induct IsDeep deep_by e.rest)
 
 pub last_past : (at depth : ℕ) (xs before : List Line) → Deep depth xs → at < depth → last_at at (onto xs before) ≡ last_at at before
 last_past at depth [] before deep lt = refl
@@ -158,61 +158,61 @@ Owned costs u lines = (v : ℕ) → stands v lines ≡ true → Owner costs u li
 
 module _ (costs : Costs) where
   Owns : Plan → Type 0
-  Owns p = (u depth : ℕ) (before : List Line) → 1 ≤ depth → last_at (depth - 1) before ≡ u → Rooted costs before (told p depth) → Owned costs u (told p depth)
+  Owns p = (u depth : ℕ) (before : List Line) → 1 ≤ depth → last_at (depth - 1) before ≡ u → Rooted costs before (lines_of p depth) → Owned costs u (lines_of p depth)
 
   -- what holds at one entry, after the lines before it
-  pub entry_child : (u depth : ℕ) (before more : List Line) (e : Entry Plan) → last_at (depth - 1) before ≡ u → Rooted costs before (rest_told depth e ++ more) → is_child_in u (row_of costs e.child) ≡ true
-  unfolding rest_told
+  pub entry_child : (u depth : ℕ) (before more : List Line) (e : Entry Plan) → last_at (depth - 1) before ≡ u → Rooted costs before (rest_listed depth e ++ more) → is_child_in u (row_of costs e.child) ≡ true
+  unfolding rest_listed
   entry_child u depth before more e last rooted = subst (λ n. is_child_in n (row_of costs e.child) ≡ true) last rooted.0
 
-  pub inner_rooted : (depth : ℕ) (before more : List Line) (e : Entry Plan) → Rooted costs before (rest_told depth e ++ more) → Rooted costs (record { depth = depth; node = e.child; hold = e.hold } ∷ before) (told e.rest (depth + 1))
-  unfolding rest_told
-  inner_rooted depth before more e rooted = rooted_front costs _ (told e.rest (depth + 1)) more rooted.1
+  pub inner_rooted : (depth : ℕ) (before more : List Line) (e : Entry Plan) → Rooted costs before (rest_listed depth e ++ more) → Rooted costs (record { depth = depth; node = e.child; hold = e.hold } ∷ before) (lines_of e.rest (depth + 1))
+  unfolding rest_listed
+  inner_rooted depth before more e rooted = rooted_front costs _ (lines_of e.rest (depth + 1)) more rooted.1
 
   pub inner_last : (depth : ℕ) (before : List Line) (e : Entry Plan) → last_at (depth + 1 - 1) (record { depth = depth; node = e.child; hold = e.hold } ∷ before) ≡ e.child
   inner_last depth before e =
       ap (λ n. last_at n (record { depth = depth; node = e.child; hold = e.hold } ∷ before)) (let s : depth + 1 - 1 ≡ depth = omega arith in s)
       ∙ ap (λ b. if b then e.child else last_at depth before) (same_node depth)
 
-  pub more_last : (u depth : ℕ) (before : List Line) (e : Entry Plan) → 1 ≤ depth → last_at (depth - 1) before ≡ u → last_at (depth - 1) (onto (rest_told depth e) before) ≡ u
-  more_last u depth before e some last = last_past (depth - 1) depth (rest_told depth e) before (deep_told depth e) (omega arith) ∙ last
+  pub more_last : (u depth : ℕ) (before : List Line) (e : Entry Plan) → 1 ≤ depth → last_at (depth - 1) before ≡ u → last_at (depth - 1) (onto (rest_listed depth e) before) ≡ u
+  more_last u depth before e some last = last_past (depth - 1) depth (rest_listed depth e) before (deep_listed depth e) (omega arith) ∙ last
 
-  each_owned : (u depth : ℕ) (es : List (Entry Plan)) → AllByRecursion (λ e. Owns e.rest) es → (before : List Line) → 1 ≤ depth → last_at (depth - 1) before ≡ u → Rooted costs before (flat_map (rest_told depth) es)
-      → Owned costs u (flat_map (rest_told depth) es)
-  unfolding Owns rest_told
+  each_owned : (u depth : ℕ) (es : List (Entry Plan)) → AllByRecursion (λ e. Owns e.rest) es → (before : List Line) → 1 ≤ depth → last_at (depth - 1) before ≡ u → Rooted costs before (flat_map (rest_listed depth) es)
+      → Owned costs u (flat_map (rest_listed depth) es)
+  unfolding Owns rest_listed
   each_owned u depth [] owns before some last rooted v there = absurd (cc)
   each_owned u depth (e ∷ es) (own, owns) before some last rooted v there =
-      let more = flat_map (rest_told depth) es in
+      let more = flat_map (rest_listed depth) es in
       let inner = own e.child (depth + 1) (record { depth = depth; node = e.child; hold = e.hold } ∷ before) (omega arith) (inner_last depth before e) (inner_rooted depth before more e rooted) in
-      let others = each_owned u depth es owns (onto (rest_told depth e) before) some (more_last u depth before e some last) (rooted_after costs before (rest_told depth e) more rooted) in
-      by more (entry_child u depth before more e last rooted) inner others (or_cases (e.child == v) (stands v (told e.rest (depth + 1) ++ more)) there)
+      let others = each_owned u depth es owns (onto (rest_listed depth e) before) some (more_last u depth before e some last) (rooted_after costs before (rest_listed depth e) more rooted) in
+      by more (entry_child u depth before more e last rooted) inner others (or_cases (e.child == v) (stands v (lines_of e.rest (depth + 1) ++ more)) there)
     where
-      by : (more : List Line) → is_child_in u (row_of costs e.child) ≡ true → Owned costs e.child (told e.rest (depth + 1)) → Owned costs u more
-          → ((e.child == v) ≡ true) ⊎ (stands v (told e.rest (depth + 1) ++ more) ≡ true) → Owner costs u (record { depth = depth; node = e.child; hold = e.hold } ∷ (told e.rest (depth + 1) ++ more)) v
+      by : (more : List Line) → is_child_in u (row_of costs e.child) ≡ true → Owned costs e.child (lines_of e.rest (depth + 1)) → Owned costs u more
+          → ((e.child == v) ≡ true) ⊎ (stands v (lines_of e.rest (depth + 1) ++ more) ≡ true) → Owner costs u (record { depth = depth; node = e.child; hold = e.hold } ∷ (lines_of e.rest (depth + 1) ++ more)) v
       by more child inner others (inl is) = record { node = u; child = subst (λ n. is_child_in u (row_of costs n) ≡ true) (equal_node e.child v is) child; place = inl refl }
-      by more child inner others (inr there) = within (or_cases (stands v (told e.rest (depth + 1))) (stands v more) (sym (stands_append v (told e.rest (depth + 1)) more) ∙ there))
+      by more child inner others (inr there) = within (or_cases (stands v (lines_of e.rest (depth + 1))) (stands v more) (sym (stands_append v (lines_of e.rest (depth + 1)) more) ∙ there))
         where
-          seen : (n : ℕ) → (stands n (told e.rest (depth + 1)) || stands n more) ≡ true → ((e.child == n) || stands n (told e.rest (depth + 1) ++ more)) ≡ true
-          seen n h = or_true (e.child == n) _ (stands_append n (told e.rest (depth + 1)) more ∙ h)
+          seen : (n : ℕ) → (stands n (lines_of e.rest (depth + 1)) || stands n more) ≡ true → ((e.child == n) || stands n (lines_of e.rest (depth + 1) ++ more)) ≡ true
+          seen n h = or_true (e.child == n) _ (stands_append n (lines_of e.rest (depth + 1)) more ∙ h)
 
-          up : (n : ℕ) → (n ≡ e.child) ⊎ (stands n (told e.rest (depth + 1)) ≡ true) → ((e.child == n) || stands n (told e.rest (depth + 1) ++ more)) ≡ true
-          up n (inl is) = ap (λ b. b || stands n (told e.rest (depth + 1) ++ more)) (subst (λ k. (k == n) ≡ true) is (same_node n))
+          up : (n : ℕ) → (n ≡ e.child) ⊎ (stands n (lines_of e.rest (depth + 1)) ≡ true) → ((e.child == n) || stands n (lines_of e.rest (depth + 1) ++ more)) ≡ true
+          up n (inl is) = ap (λ b. b || stands n (lines_of e.rest (depth + 1) ++ more)) (subst (λ k. (k == n) ≡ true) is (same_node n))
           up n (inr h) = seen n (ap (λ b. b || stands n more) h)
 
-          along : (n : ℕ) → (n ≡ u) ⊎ (stands n more ≡ true) → (n ≡ u) ⊎ (((e.child == n) || stands n (told e.rest (depth + 1) ++ more)) ≡ true)
+          along : (n : ℕ) → (n ≡ u) ⊎ (stands n more ≡ true) → (n ≡ u) ⊎ (((e.child == n) || stands n (lines_of e.rest (depth + 1) ++ more)) ≡ true)
           along n (inl is) = inl is
-          along n (inr h) = inr (seen n (or_true (stands n (told e.rest (depth + 1))) (stands n more) h))
+          along n (inr h) = inr (seen n (or_true (stands n (lines_of e.rest (depth + 1))) (stands n more) h))
 
-          within : (stands v (told e.rest (depth + 1)) ≡ true) ⊎ (stands v more ≡ true) → Owner costs u (record { depth = depth; node = e.child; hold = e.hold } ∷ (told e.rest (depth + 1) ++ more)) v
+          within : (stands v (lines_of e.rest (depth + 1)) ≡ true) ⊎ (stands v more ≡ true) → Owner costs u (record { depth = depth; node = e.child; hold = e.hold } ∷ (lines_of e.rest (depth + 1) ++ more)) v
           within (inl h) = let o = inner v h in record { node = o.node; child = o.child; place = inr (up o.node o.place) }
           within (inr h) = let o = others v h in record { node = o.node; child = o.child; place = along o.node o.place }
 
   owned_by : (p : Plan) → AllByRecursion (λ e. Owns e.rest) (entries_of p) → Owns p
   unfolding Owns
   owned_by p owns u depth before some last rooted =
-      subst (Owned costs u) (sym (told_parts p depth)) (each_owned u depth (entries_of p) owns before some last (subst (Rooted costs before) (told_parts p depth) rooted))
+      subst (Owned costs u) (sym (listed_parts p depth)) (each_owned u depth (entries_of p) owns before some last (subst (Rooted costs before) (listed_parts p depth) rooted))
 
-  pub owned : (p : Plan) (u depth : ℕ) (before : List Line) → 1 ≤ depth → last_at (depth - 1) before ≡ u → Rooted costs before (told p depth) → Owned costs u (told p depth)
+  pub owned : (p : Plan) (u depth : ℕ) (before : List Line) → 1 ≤ depth → last_at (depth - 1) before ≡ u → Rooted costs before (lines_of p depth) → Owned costs u (lines_of p depth)
   unfolding Owns
   owned = induct Owns owned_by
 
@@ -220,5 +220,5 @@ module _ (costs : Costs) where
   every_owns [] = tt
   every_owns (e ∷ es) = (induct Owns owned_by e.rest, every_owns es)
 
-  pub owned_list : (u depth : ℕ) (es : List (Entry Plan)) (before : List Line) → 1 ≤ depth → last_at (depth - 1) before ≡ u → Rooted costs before (flat_map (rest_told depth) es) → Owned costs u (flat_map (rest_told depth) es)
+  pub owned_list : (u depth : ℕ) (es : List (Entry Plan)) (before : List Line) → 1 ≤ depth → last_at (depth - 1) before ≡ u → Rooted costs before (flat_map (rest_listed depth) es) → Owned costs u (flat_map (rest_listed depth) es)
   owned_list u depth es = each_owned u depth es (every_owns es)

@@ -1,5 +1,5 @@
 pub mod Lines
 pub mod Reads
 pub mod Refusals
-pub mod Told
+pub mod PlanLines
 pub mod Verdicts

@@ -3,7 +3,8 @@ use Rattle.std.specs.Prelude.{ℕ, ◌≡◌, List, [], Some, None, Option}
 use Rattle.plan_type.specs.declared.budget.Budget.{Budget}
 use Rattle.plan_type.specs.declared.costs.Costs.{Costs}
 use Rattle.plan_type.specs.Costs.{blocks_of}
-use Rattle.plan_type.specs.Plan.{Serves, work, peak}
+use Rattle.plan_type.specs.Plan.{Serves, peak}
+use Rattle.plan_type.specs.Prices.{cost}
 use Rattle.plan_type.specs.PlanText.{text_of}
 use Rattle.plan_checker.specs.declared.line.Line.{Line}
 use Rattle.plan_checker.specs.declared.verdict.Verdict.{Verdict}
@@ -16,7 +17,7 @@ use Rattle.plan_checker.specs.Refusals.{wrong_child, first_over}
 pub record IsVerdict (costs : Costs) (budget : Budget) (text : List ℕ) (v : Verdict) : Type 0 where
   pub serves : Serves costs budget v.plan
   pub is : text ≡ text_of v.plan
-  pub cost : v.cost ≡ work costs v.plan
+  pub cost : v.cost ≡ cost costs budget v.plan
   pub peak : v.peak ≡ peak costs budget v.plan
 
 unfoldable pub over_budget : Costs → Budget → List Line → Option (ℕ × ℕ)

@@ -1,6 +1,6 @@
 //! The plan that lines tell.
 ghost use Rattle.std.specs.Prelude.{◌≡◌, ◌≤◌, ◌<◌, ◌+◌, ◌++◌, ◌^◌, length, take, drop, IfOk};
-ghost use Rattle.plan_checker.specs.Told.{told, is_at, IsUnder, IsChain};
+ghost use Rattle.plan_checker.specs.PlanLines.{lines_of, is_at, IsUnder, IsChain};
 
 use crate::line::Line;
 use chex_base::NoMemory;
@@ -16,7 +16,7 @@ pub fn build(alloc: Global, lines: &[Line], above: u32) -> Result<(Plan, usize),
     requires under { IsUnder (above + 1) lines.now }
     requires shallow { above ≤ 9999 }
     ensures within { IfOk result (λ x. x.1 ≤ length lines.now) }
-    ensures told { IfOk result (λ x. told x.0 (above + 1) ≡ take x.1 lines.now) }
+    ensures lines_of { IfOk result (λ x. lines_of x.0 (above + 1) ≡ take x.1 lines.now) }
     ensures chain { IfOk result (λ x. IsChain (drop x.1 lines.now)) }
     ensures under { IfOk result (λ x. IsUnder above (drop x.1 lines.now)) }
 {

@@ -2,16 +2,14 @@
 //! its cost and its peak, or the first fault. Whoever wrote the text need not be trusted.
 #![tactic(auto)]
 
-pub mod build;
-pub mod fault;
-pub mod line;
-pub mod over;
-pub mod read;
-pub mod verdict;
-pub mod wrong;
+mod build;
+mod fault;
+mod line;
+mod over;
+mod read;
+mod verdict;
+mod wrong;
 
 pub use fault::CheckFault;
 pub use verdict::{Verdict, check};
 
-#[cfg(test)]
-mod tests;

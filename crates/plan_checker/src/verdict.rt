@@ -22,7 +22,7 @@ use std::alloc::Global;
 pub struct Verdict {
     /// The plan.
     pub plan: Plan,
-    /// What carrying out the plan costs, in steps.
+    /// What carrying out the plan costs, in steps, the prices of saving and restoring included.
     pub cost: u64,
     /// The most blocks that its snapshots have in the store at once.
     pub peak: u64,
@@ -69,7 +69,7 @@ fn judged(alloc: Global, costs: &Costs, budget: &Budget, text: &[u8]) -> Result<
         return Err(CheckFault::OverBudget { node, blocks });
     }
     let (plan, _) = build(alloc, &lines, 0)?;
-    let cost = plan.cost(costs);
+    let cost = plan.cost(costs, budget);
     let peak = plan.peak(costs, budget);
     Ok(Verdict { plan, cost, peak })
 }

@@ -1,13 +1,13 @@
 //! Whether the entries are a plan of the reached nodes.
 ghost use Rattle.std.specs.Prelude.{ℕ, ◌≡◌, ◌≤◌, ◌<◌, ◌+◌, ◌&&◌, not, false, true, [], length, get_or, replicate, IfOk, vec_len, Option};
 ghost use Rattle.std.specs.List.{find, range_with_len};
-ghost use Rattle.plan_type.specs.Costs.{row_of, is_child_in, is_reached_in};
+ghost use Rattle.plan_type.specs.Costs.{row_of, is_reached_in};
 ghost use Rattle.plan_checker.specs.Lines.{AllFollow};
 ghost use Rattle.plan_checker.specs.Refusals.{wrong_child};
 
 use crate::line::Line;
 use chex_base::{NoMemory, NodeId};
-use plan_type::{Costs, Reach};
+use plan_type::Costs;
 use std::alloc::Global;
 
 /// One more than the greatest number of a line.
@@ -43,7 +43,7 @@ pub fn wrong_child(alloc: Global, costs: &Costs, lines: &[Line]) -> Result<Optio
         let depth = line.level();
         let number = line.number();
         let parent = NodeId(last[depth - 1]);
-        if !is_child(costs, parent, NodeId(number)) || stood[number as usize] {
+        if !costs.is_child(parent, NodeId(number)) || stood[number as usize] {
             return Ok(Some(NodeId(number)));
         }
         last[depth] = number;
@@ -61,27 +61,9 @@ fn missing(costs: &Costs, stood: &[bool]) -> Option<NodeId>
 {
     let end = costs.rows.len() as u32 + 1;
     for number in 1..end {
-        if is_reached(costs, NodeId(number)) && !stood[number as usize] {
+        if costs.is_reached(NodeId(number)) && !stood[number as usize] {
             return Some(NodeId(number));
         }
     }
     None
-}
-
-fn is_child(costs: &Costs, of: NodeId, node: NodeId) -> bool
-    ensures { result ≡ is_child_in of (row_of costs.now node) }
-{
-    match costs.row(node) {
-        Some(row) => row.parent == of && row.end != Reach::Unreached,
-        None => false,
-    }
-}
-
-fn is_reached(costs: &Costs, node: NodeId) -> bool
-    ensures { result ≡ is_reached_in (row_of costs.now node) }
-{
-    match costs.row(node) {
-        Some(row) => row.end != Reach::Unreached,
-        None => false,
-    }
 }

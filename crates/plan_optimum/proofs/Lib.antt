@@ -1,8 +1,8 @@
-pub mod OfferLemmas
-pub mod Orders
-pub mod Lower
+pub mod Deeper
 pub mod Weights
-pub mod Upper
-pub mod Stands
-pub mod Builds
-pub mod Shallow
+pub mod Grouped
+pub mod Choosing
+pub mod SiteLemmas
+pub mod Lookups
+pub mod Building
+pub mod Optimal

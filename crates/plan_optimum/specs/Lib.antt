@@ -1,4 +1,5 @@
 pub mod Bounds
-pub mod Offers
-pub mod Standings
+pub mod Sites
+pub mod Entries
+pub mod Chosen
 pub mod Built

@@ -9,7 +9,7 @@ use Rattle.plan_type.specs.declared.costs.Costs.{Costs}
 use Rattle.plan_type.specs.declared.row.Row.{Row}
 use Rattle.plan_type.specs.declared.row.Reach.{Reach}
 use Rattle.plan_type.specs.declared.row.Reach.TheVariants.{Done, Failed, Unreached}
-use Rattle.plan_type.specs.Costs.{row_of, children_of, is_child_in, is_reached, is_reached_in, is_unreached, cuts, IsReached, IsSound}
+use Rattle.plan_type.specs.Costs.{row_of, children_of, is_child_in, is_reached, is_reached_in, is_unreached, is_dead_end, IsReached, IsSound}
 
 -- v is reached from u by children, through these nodes and v
 abbrev pub Leads : (ℕ → List ℕ) → ℕ → List ℕ → ℕ → Type 0
@@ -63,13 +63,13 @@ row_there costs (suc i) some le = by (slice_get_cases costs.rows i).1
     by (inr h) = let past = h.0 in absurd (omega arith)
 
 -- what is neither failed nor unreached is reached
-open_row : (row : Row) → cuts (Some row) ≡ false → is_reached row.end ≡ true
+open_row : (row : Row) → is_dead_end (Some row) ≡ false → is_reached row.end ≡ true
 open_row row h = by row.end refl
   where
     by : (end : Reach) → row.end ≡ end → is_reached end ≡ true
     by Done is = refl
-    by Failed is = absurd (let e = ap (λ x. cuts (Some (record row { end = x }))) is in cc)
-    by Unreached is = absurd (let e = ap (λ x. cuts (Some (record row { end = x }))) is in cc)
+    by Failed is = absurd (let e = ap (λ x. is_dead_end (Some (record row { end = x }))) is in cc)
+    by Unreached is = absurd (let e = ap (λ x. is_dead_end (Some (record row { end = x }))) is in cc)
 
 module _ (costs : Costs) (sound : IsSound costs) where
   Led : ℕ → Type 0
@@ -88,12 +88,12 @@ module _ (costs : Costs) (sound : IsSound costs) where
   extend u v (w, ws, leads) child = (w, ws ++ v ∷ [], leads_on (children_of costs) 0 (w ∷ ws) u v leads child)
 
   -- from what is known of the parent
-  step : (u v : ℕ) → u < v → Contains (children_of costs u) v → cuts (row_of costs u) ≡ false → v ≤ length costs.rows → (IsReached costs u → Led u) → Led v
+  step : (u v : ℕ) → u < v → Contains (children_of costs u) v → is_dead_end (row_of costs u) ≡ false → v ≤ length costs.rows → (IsReached costs u → Led u) → Led v
   unfolding Led
   step zero v below child clear within more = (v, [], (child, refl))
   step (suc i) v below child clear within more =
       let (row, is) = row_there costs (suc i) (omega arith) (omega arith) in
-      let reach : is_reached_in (row_of costs (suc i)) ≡ true = ap is_reached_in is ∙ open_row row (sym (ap cuts is) ∙ clear) in
+      let reach : is_reached_in (row_of costs (suc i)) ≡ true = ap is_reached_in is ∙ open_row row (sym (ap is_dead_end is) ∙ clear) in
       extend (suc i) v (more reach) child
 
   led_at : (fuel v : ℕ) → v ≤ fuel → (o : Option Row) → row_of costs v ≡ o → is_reached_in o ≡ true → ((u : ℕ) → u < v → IsReached costs u → Led u) → Led v
@@ -101,7 +101,7 @@ module _ (costs : Costs) (sound : IsSound costs) where
   led_at fuel v le (Some row) is h more =
       let s = sound.rows v row is in
       let below = s.parent in
-      let clear : cuts (row_of costs row.parent) ≡ false = sym s.unreached ∙ reached_end row.end h in
+      let clear : is_dead_end (row_of costs row.parent) ≡ false = sym s.unreached ∙ reached_end row.end h in
       step row.parent v below (is_child v row is below h) clear (row_within costs v row is) (more row.parent below)
 
   led_to : (fuel v : ℕ) → v ≤ fuel → IsReached costs v → Led v

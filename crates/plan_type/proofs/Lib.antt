@@ -14,3 +14,7 @@ pub mod Lines
 pub mod Writable
 pub mod Children
 pub mod Tested
+pub mod Orders
+pub mod Lower
+pub mod OfferLemmas
+pub mod CostFits

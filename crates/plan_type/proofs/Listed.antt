@@ -36,7 +36,7 @@ module _ (blocks : ℕ → ℕ) where
   unfolding Rises
   rises_by p rises u a b le = rw (peak_parts blocks p u a, peak_parts blocks p u b) (greatest_rises (rest_peak blocks u a) (rest_peak blocks u b) a b (entries_of p) le (each_rises u a b (entries_of p) le rises))
 
-  peak_rises : (p : Plan) (u a b : ℕ) → a ≤ b → peak_at blocks p u a ≤ peak_at blocks p u b
+  pub peak_rises : (p : Plan) (u a b : ℕ) → a ≤ b → peak_at blocks p u a ≤ peak_at blocks p u b
   unfolding Rises
   peak_rises p = induct Rises rises_by p
 
@@ -64,9 +64,21 @@ module _ (blocks : ℕ → ℕ) where
         rest = omega (arith, parts, g, a, s, more, fits);
       }
 
+  -- the same of each entry
+  abbrev pub Roomy : ℕ → ℕ → Entry Plan → Type 0
+  Roomy u most e = (e.hold ≡ true → blocks u ≤ most) × (peak_at blocks e.rest e.child 0 ≤ most)
+
+  pub rooms : (u most : ℕ) (es : List (Entry Plan)) → greatest (rest_peak blocks u 0) 0 es ≤ most → AllByRecursion (Roomy u most) es
+  unfolding rest_peak
+  rooms u most [] fits = tt
+  rooms u most (e ∷ es) fits =
+      let top = peak_above blocks e.rest e.child (if e.hold then 0 + blocks u else 0) in
+      let more = peak_rises e.rest e.child 0 (if e.hold then 0 + blocks u else 0) (omega arith) in
+      (((λ hold. let h = ap (λ b. if b then 0 + blocks u else 0) hold in omega (arith, top, h, fits)), omega (arith, more, fits)), rooms u most es (omega (arith, fits)))
+
 -- ---- operations
 
-empty_by_length : {X : Type 0} (xs : List X) (n : ℕ) → length xs ≡ n → nat_eq n 0 ≡ is_none xs
+pub empty_by_length : {X : Type 0} (xs : List X) (n : ℕ) → length xs ≡ n → nat_eq n 0 ≡ is_none xs
 empty_by_length [] n is = ap (λ m. nat_eq m 0) (sym is)
 empty_by_length (x ∷ xs) n is = by n is
   where

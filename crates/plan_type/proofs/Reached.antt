@@ -7,13 +7,14 @@ use Rattle.std.proofs.lemmas.List.Elements.{All-from_recursion, All-contains}
 use Rattle.std.proofs.lemmas.Bool.Decides.{nat_tests}
 use Rattle.plan_type.specs.declared.plan.Plan.{Plan, every-Plan}
 use Rattle.plan_type.specs.declared.plan.Entry.{Entry}
-use Rattle.plan_type.specs.declared.operations.Operation.TheVariants.{Reset}
+use Rattle.plan_type.specs.declared.operations.Operation.{Operation}
+use Rattle.plan_type.specs.declared.operations.Operation.TheVariants.{Reset, Compute, Checkpoint, Restore, Evict}
 use Rattle.plan_type.specs.declared.budget.Budget.{Budget}
 use Rattle.plan_type.specs.declared.costs.Costs.{Costs}
 use Rattle.plan_type.specs.Costs.{Tree, tree_of, IsSound}
 use Rattle.plan_type.specs.Plan.{named, entries_of, is_none, Orders, LayerOrders, IsPlanOf, IsPlan, HoldsNone, peak, peak_at}
-use Rattle.plan_type.specs.Prices.{Prices, no_prices, cost_at}
-use Rattle.plan_type.specs.Operations.{Ops, before, listed_ops, ops_at, way_back, operations_of, start, after, after_all, LegalAll, computes, computes_one, CarriesOut}
+use Rattle.plan_type.specs.Prices.{Prices, no_prices, prices_of, cost_at}
+use Rattle.plan_type.specs.Operations.{Ops, before, listed_ops, ops_at, way_back, operations_of, Machine, start, after, after_all, LegalAll, computes, computes_one, CarriesOut}
 use Rattle.plan_type.proofs.Sound.{Grows, grows}
 use Rattle.plan_type.proofs.Led.{Leads, led}
 use Rattle.plan_type.proofs.Works.{plain}
@@ -90,7 +91,7 @@ module _ (tree : Tree) where
   carries prices most end grows p orders holds_none fits =
       let from = after tree prices Reset start in
       let here : Stands tree prices most end grows 0 0 [] 0 0 [] = record { below = tt; anchored = inl refl; chain = refl; backs = refl; agains = refl } in
-      let a = plays tree prices most end grows p 0 0 [] 0 0 [] from orders (λ _. holds_none) here refl refl (omega arith) fits in
+      let a = plays tree prices most end grows p 0 0 [] 0 0 [] from orders (λ _. holds_none) here refl (λ some. absurd (omega arith)) refl (omega arith) fits in
       let x = a.pays in let y = a.reaches in
       record {
         legal = (tt, a.passes.legal);
@@ -100,15 +101,31 @@ module _ (tree : Tree) where
         reached = λ w ws v leads. induct Reaches reached_by p 0 0 [] w ws v orders leads;
       }
 
+-- the steps are what is paid where nothing has a price
+one_work : (tree : Tree) (prices : Prices) (o : Operation) (m n : Machine) → m.work ≡ n.paid → (after tree prices o m).work ≡ (after tree no_prices o n).paid
+one_work tree prices Reset m n h = h
+one_work tree prices (Compute v k) m n h = omega (arith, h)
+one_work tree prices (Checkpoint v b) m n h = omega (arith, h)
+one_work tree prices (Restore v) m n h = omega (arith, h)
+one_work tree prices (Evict v) m n h = h
+
+all_work : (tree : Tree) (prices : Prices) (os : Ops) (m n : Machine) → m.work ≡ n.paid → (after_all tree prices os m).work ≡ (after_all tree no_prices os n).paid
+all_work tree prices [] m n h = h
+all_work tree prices (o ∷ os) m n h = all_work tree prices os (after tree prices o m) (after tree no_prices o n) (one_work tree prices o m n h)
+
 -- the list of a plan that fits carries it out
 pub carries_out : (costs : Costs) (budget : Budget) (p : Plan) → IsSound costs → IsPlan costs p → peak costs budget p ≤ budget.most → CarriesOut costs budget p (operations_of costs budget p)
 unfolding tree_of
 carries_out costs budget p sound plan fits =
-    let c = carries (tree_of costs budget.block) no_prices budget.most (length costs.rows + 1) (grows costs budget.block sound) p plan.orders plan.holds_none fits in
+    let tree = tree_of costs budget.block in
+    let g = grows costs budget.block sound in
+    let c = carries tree (prices_of budget) budget.most (length costs.rows + 1) g p plan.orders plan.holds_none fits in
+    let w = carries tree no_prices budget.most (length costs.rows + 1) g p plan.orders plan.holds_none fits in
     record {
       legal = c.legal;
       stored = c.stored;
-      paid = c.paid ∙ plain (tree_of costs budget.block) p 0 0;
+      work = all_work tree (prices_of budget) (operations_of costs budget p) start start refl ∙ w.paid ∙ plain tree p 0 0;
+      paid = c.paid;
       greatest = c.greatest;
       reached = λ v is. let (w, ws, leads) = led costs sound v is in c.reached w ws v leads;
     }

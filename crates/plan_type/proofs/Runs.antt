@@ -69,28 +69,28 @@ module _ (tree : Tree) (prices : Prices) (most above : ℕ) (grows : Grows tree 
 
   -- ---- the pieces
 
-  change : (u : ℕ) (held hold : Bool) (st : List ℕ) (m : Machine) → m.live ≡ Some u → m.stored ≡ (if held then u ∷ st else st) → stores st u ≡ false
+  change : (u : ℕ) (held hold : Bool) (st : List ℕ) (m : Machine) → m.live ≡ Some u → (held ≡ false → hold ≡ true → m.fresh ≡ true) → m.stored ≡ (if held then u ∷ st else st) → stores st u ≡ false
       → (if held then sum_by tree.blocks st + tree.blocks u else sum_by tree.blocks st) ≤ m.greatest
       → (if hold then sum_by tree.blocks st + tree.blocks u else sum_by tree.blocks st) ≤ most
       → Moves (before u (tree.blocks u) held hold) m u (if hold then u ∷ st else st) (if hold && not held then prices.save * tree.blocks u else 0)
       (if hold then sum_by tree.blocks st + tree.blocks u else sum_by tree.blocks st)
-  change u true true st m live stored fresh used fits =
+  change u true true st m live new stored fresh used fits =
       record { plays = record { end = m; passes = record { legal = tt; to = refl }; stored = stored; pays = omega arith; reaches = omega arith }; live = live }
-  change u false false st m live stored fresh used fits =
+  change u false false st m live new stored fresh used fits =
       record { plays = record { end = m; passes = record { legal = tt; to = refl }; stored = stored; pays = omega arith; reaches = omega arith }; live = live }
-  change u false true st m live stored fresh used fits =
+  change u false true st m live new stored fresh used fits =
       let s = ap (sum_by tree.blocks) stored in
       record {
         plays = record {
           end = after tree prices (Checkpoint u (tree.blocks u)) m;
-          passes = record { legal = ((live, rw stored fresh, refl, omega (arith, s)), tt); to = refl };
+          passes = record { legal = ((live, new refl refl, rw stored fresh, refl, omega (arith, s)), tt); to = refl };
           stored = ap (λ l. u ∷ l) stored;
           pays = refl;
           reaches = ap (λ n. max m.greatest (n + tree.blocks u)) s;
         };
         live = live;
       }
-  change u true false st m live stored fresh used fits =
+  change u true false st m live new stored fresh used fits =
       record {
         plays = record {
           end = after tree prices (Evict u) m;
@@ -178,11 +178,30 @@ module _ (tree : Tree) (prices : Prices) (most above : ℕ) (grows : Grows tree 
       let a = stands.backs in let b = stands.agains in
       record { plays = plays_as _ m st _ (back + again) 0 0 i.plays (omega (arith, a, b)) refl; live = i.live }
 
+  -- ---- what was just computed
+
+  computed_fresh : (w : ℕ) (ws : List ℕ) (m : Machine) → (after_all tree prices (map (λ v. Compute v (tree.steps v)) (w ∷ ws)) m).fresh ≡ true
+  computed_fresh w [] m = refl
+  computed_fresh w (x ∷ ws) m = computed_fresh x ws (after tree prices (Compute w (tree.steps w)) m)
+
+  -- a node that is made again is computed, unless it is 0
+  back_fresh : (u anchor : ℕ) (way : List ℕ) (back again : ℕ) (st : List ℕ) (hold : Bool) (m end : Machine) → Stands u anchor way back again st → after_all tree prices (way_back tree.steps u anchor way hold) m ≡ end
+      → hold ≡ false → 0 < u → end.fresh ≡ true
+  back_fresh u anchor way back again st true m end stands to off some = absurd (cc)
+  back_fresh u anchor way back again st false m end stands to off some = by way stands.chain to
+    where
+      by : (way : List ℕ) → Chain anchor way u → after_all tree prices (way_back tree.steps u anchor way false) m ≡ end → end.fresh ≡ true
+      by [] chain to = absurd (elim stands.anchored [
+        | inl none ↦ omega (arith, none, chain, some)
+        | inr there ↦ let not = not_stored u st stands.below in let here : stores st u ≡ true = subst (λ x. stores st x ≡ true) chain there in cc
+      ])
+      by (w ∷ ws) chain to = ap (λ x. x.fresh) (sym to) ∙ computed_fresh w ws (after tree prices (if anchor == 0 then Reset else Restore anchor) m)
+
   -- ---- a plan
 
   unfoldable pub Played : Plan → Type 0
   Played p = (u anchor : ℕ) (way : List ℕ) (back again : ℕ) (st : List ℕ) (m : Machine) → IsPlanOf tree.children u p → (u ≡ 0 → HoldsNone (entries_of p))
-      → Stands u anchor way back again st → m.live ≡ Some u → m.stored ≡ st → sum_by tree.blocks st ≤ m.greatest
+      → Stands u anchor way back again st → m.live ≡ Some u → (0 < u → m.fresh ≡ true) → m.stored ≡ st → sum_by tree.blocks st ≤ m.greatest
       → peak_at tree.blocks p u (sum_by tree.blocks st) ≤ most
       → Plays (ops_at tree p u anchor way) m st (cost_at tree prices p u back again) (peak_at tree.blocks p u (sum_by tree.blocks st))
 
@@ -220,7 +239,7 @@ module _ (tree : Tree) (prices : Prices) (most above : ℕ) (grows : Grows tree 
       } in
       plays_compute u v m (ops_at tree rest v u (v ∷ [])) (u ∷ st) _ _ live parent
       (subst (λ n. Plays (ops_at tree rest v u (v ∷ [])) next (u ∷ st) (cost_at tree prices rest v (tree.steps v) (prices.load * tree.blocks u)) (peak_at tree.blocks rest v n)) more
-      (played v u (v ∷ []) (tree.steps v) (prices.load * tree.blocks u) (u ∷ st) next order (λ z. absurd (omega arith)) here refl stored (omega (arith, more)) (subst (λ n. peak_at tree.blocks rest v n ≤ most) (sym more) fits)))
+      (played v u (v ∷ []) (tree.steps v) (prices.load * tree.blocks u) (u ∷ st) next order (λ z. absurd (omega arith)) here refl (λ _. refl) stored (omega (arith, more)) (subst (λ n. peak_at tree.blocks rest v n ≤ most) (sym more) fits)))
   turn u anchor way back again st false v rest m played some below parent order stands live stored used fits =
       let next = after tree prices (Compute v (tree.steps v)) m in
       let here : Stands v anchor (way ++ v ∷ []) (back + tree.steps v) again st = record {
@@ -231,7 +250,7 @@ module _ (tree : Tree) (prices : Prices) (most above : ℕ) (grows : Grows tree 
         agains = stands.agains;
       } in
       plays_compute u v m (ops_at tree rest v anchor (way ++ v ∷ [])) st _ _ live parent
-      (played v anchor (way ++ v ∷ []) (back + tree.steps v) again st next order (λ z. absurd (omega arith)) here refl stored used fits)
+      (played v anchor (way ++ v ∷ []) (back + tree.steps v) again st next order (λ z. absurd (omega arith)) here refl (λ _. refl) stored used fits)
 
   -- after the last entry
   close : (u : ℕ) (hold : Bool) (st : List ℕ) (m : Machine) → m.stored ≡ (if hold then u ∷ st else st)
@@ -247,32 +266,32 @@ module _ (tree : Tree) (prices : Prices) (most above : ℕ) (grows : Grows tree 
       → AllByRecursion (λ v. u < v) (named es) → AllByRecursion (λ v. tree.parent v ≡ Some u) (named es)
       → AllByRecursion (λ e. Orders tree.children e.child (entries_of e.rest)) es → AllByRecursion (λ e. every-Plan (LayerOrders tree.children) e.rest) es → AllByRecursion (λ e. Played e.rest) es
       → AllByRecursion (λ e. e.hold ≡ true → 0 < u) es
-      → m.live ≡ Some u → m.stored ≡ (if held then u ∷ st else st) → (if held then sum_by tree.blocks st + tree.blocks u else sum_by tree.blocks st) ≤ m.greatest
+      → m.live ≡ Some u → (held ≡ false → 0 < u → m.fresh ≡ true) → m.stored ≡ (if held then u ∷ st else st) → (if held then sum_by tree.blocks st + tree.blocks u else sum_by tree.blocks st) ≤ m.greatest
       → greatest (rest_peak tree.blocks u (sum_by tree.blocks st)) (sum_by tree.blocks st) es ≤ most
       → Plays (listed_ops (rest_ops tree u anchor way) (before u (tree.blocks u)) (way_back tree.steps u anchor way) held es) m st
       (listed_cost (rest_cost tree prices u back again) (prices.save * tree.blocks u) (returns u back again) held es)
       (greatest (rest_peak tree.blocks u (sum_by tree.blocks st)) (sum_by tree.blocks st) es)
   unfolding rest_ops rest_cost rest_peak
-  played_list u anchor way back again st stands held [] m below parents orders under played some live stored used fits = close u held st m stored used
-  played_list u anchor way back again st stands held (e ∷ []) m below parents orders under played some live stored used fits =
+  played_list u anchor way back again st stands held [] m below parents orders under played some live fresh stored used fits = close u held st m stored used
+  played_list u anchor way back again st stands held (e ∷ []) m below parents orders under played some live fresh stored used fits =
       let w : ℕ = if e.hold then sum_by tree.blocks st + tree.blocks u else sum_by tree.blocks st in
       let top : w ≤ peak_at tree.blocks e.rest e.child w = peak_above tree.blocks e.rest e.child w in
-      let c = change u held e.hold st m live stored (not_stored u st stands.below) used (omega (arith, top)) in
+      let c = change u held e.hold st m live (λ off on. fresh off (some.0 on)) stored (not_stored u st stands.below) used (omega (arith, top)) in
       let x = c.plays.reaches in
       let t = turn u anchor way back again st e.hold e.child e.rest c.plays.end played.0 some.0 below.0 parents.0 (record { here = orders.0; under = under.0 }) stands c.live c.plays.stored (omega (arith, x)) (omega arith) in
       let y = t.reaches in
       let d = close u e.hold st t.end t.stored (omega (arith, x, y)) in
       plays_as _ m st _ _ _ _ (plays_then _ _ m _ st _ _ _ _ c.plays (plays_then _ _ c.plays.end _ st _ _ _ _ t d)) (omega arith) (omega (arith, top))
-  played_list u anchor way back again st stands held (e ∷ f ∷ es) m below parents orders under played some live stored used fits =
+  played_list u anchor way back again st stands held (e ∷ f ∷ es) m below parents orders under played some live fresh stored used fits =
       let w : ℕ = if e.hold then sum_by tree.blocks st + tree.blocks u else sum_by tree.blocks st in
       let top : w ≤ peak_at tree.blocks e.rest e.child w = peak_above tree.blocks e.rest e.child w in
-      let c = change u held e.hold st m live stored (not_stored u st stands.below) used (omega (arith, top)) in
+      let c = change u held e.hold st m live (λ off on. fresh off (some.0 on)) stored (not_stored u st stands.below) used (omega (arith, top)) in
       let x = c.plays.reaches in
       let t = turn u anchor way back again st e.hold e.child e.rest c.plays.end played.0 some.0 below.0 parents.0 (record { here = orders.0; under = under.0 }) stands c.live c.plays.stored (omega (arith, x)) (omega arith) in
       let y = t.reaches in
       let r = remade u anchor way back again st e.hold t.end stands t.stored in
       let z = r.plays.reaches in
-      let d = played_list u anchor way back again st stands e.hold (f ∷ es) r.plays.end below.1 parents.1 orders.1 under.1 played.1 some.1 r.live r.plays.stored (omega (arith, x, y, z)) (omega arith) in
+      let d = played_list u anchor way back again st stands e.hold (f ∷ es) r.plays.end below.1 parents.1 orders.1 under.1 played.1 some.1 r.live (back_fresh u anchor way back again st e.hold t.end r.plays.end stands r.plays.passes.to) r.plays.stored (omega (arith, x, y, z)) (omega arith) in
       plays_as _ m st _ _ _ _ (plays_then _ _ m _ st _ _ _ _ c.plays (plays_then _ _ c.plays.end _ st _ _ _ _ t (plays_then _ _ t.end _ st _ _ _ _ r.plays d))) (omega arith) (omega (arith, top))
 
   some_above : (u : ℕ) (es : List (Entry Plan)) → (u ≡ 0 → HoldsNone es) → AllByRecursion (λ e. e.hold ≡ true → 0 < u) es
@@ -285,13 +304,13 @@ module _ (tree : Tree) (prices : Prices) (most above : ℕ) (grows : Grows tree 
 
   played_by : (p : Plan) → AllByRecursion (λ e. Played e.rest) (entries_of p) → Played p
   unfolding Played
-  played_by p played u anchor way back again st m order none stands live stored used fits =
+  played_by p played u anchor way back again st m order none stands live fresh stored used fits =
       let below = recursion_from_All (λ v. u < v) (named (entries_of p)) (All-permutation (λ v. u < v) (tree.children u) (named (entries_of p)) order.here (grows.above u)) in
       let parents = recursion_from_All (λ v. tree.parent v ≡ Some u) (named (entries_of p)) (All-permutation (λ v. tree.parent v ≡ Some u) (tree.children u) (named (entries_of p)) order.here (grows.parents u)) in
       let (orders, under) = under_parts tree.children p order.under in
       let top = rw (peak_parts tree.blocks p u (sum_by tree.blocks st)) at fits in
       rw (ops_parts tree p u anchor way, cost_parts tree prices p u back again, peak_parts tree.blocks p u (sum_by tree.blocks st))
-      (played_list u anchor way back again st stands false (entries_of p) m below parents orders under played (some_above u (entries_of p) none) live stored used top)
+      (played_list u anchor way back again st stands false (entries_of p) m below parents orders under played (some_above u (entries_of p) none) live (λ off some. fresh some) stored used top)
 
   pub plays : (p : Plan) → Played p
   plays = induct Played played_by

@@ -8,7 +8,7 @@ use Rattle.plan_type.specs.declared.costs.Costs.{Costs}
 use Rattle.plan_type.specs.declared.row.Row.{Row}
 use Rattle.plan_type.specs.declared.row.Reach.{Reach}
 use Rattle.plan_type.specs.declared.row.Reach.TheVariants.{Done, Failed, Unreached}
-use Rattle.plan_type.specs.Costs.{Tree, IsSound, tree_of, row_of, parent_in, parent_of, steps_in, steps_of, is_child_in, is_reached, children_of, Accords}
+use Rattle.plan_type.specs.Costs.{Tree, IsSound, tree_of, row_of, parent_in, parent_of, steps_in, steps_of, is_child_in, is_reached, children_of, NumbersFit}
 
 -- children have higher numbers, and none is at or past the end
 pub record Grows (tree : Tree) (end : ℕ) : Type 0 where
@@ -43,14 +43,14 @@ parent_below costs sound u v is = by (row_of costs v) refl is
 pub steps_small : (costs : Costs) → IsSound costs → (v : ℕ) → steps_of costs v ≤ 1000000
 steps_small costs sound v = by (row_of costs v) refl
   where
-    of_end : (end : Reach) (row : Row) → Accords end row → row.steps ≤ 1000000
+    of_end : (end : Reach) (row : Row) → NumbersFit end row → row.steps ≤ 1000000
     of_end Done row h = h.1
     of_end Failed row h = h.1
     of_end Unreached row h = let e = h.0 in omega (arith, e)
 
     by : (o : Option Row) → row_of costs v ≡ o → steps_in o ≤ 1000000
     by None at = omega arith
-    by (Some row) at = of_end row.end row (sound.rows v row at).accords
+    by (Some row) at = of_end row.end row (sound.rows v row at).numbers_fit
 
 pub grows : (costs : Costs) (block : ℕ) → IsSound costs → Grows (tree_of costs block) (length costs.rows + 1)
 unfolding tree_of

@@ -87,9 +87,9 @@ is_unreached Failed = false
 is_unreached Unreached = true
 
 -- whether no child of a node is reached; number 0 has no row, and its children are reached
-abbrev pub cuts : Option Row → Bool
-cuts None = false
-cuts (Some row) = stops row.end
+abbrev pub is_dead_end : Option Row → Bool
+is_dead_end None = false
+is_dead_end (Some row) = stops row.end
   where
     stops : Reach → Bool
     stops Done = false
@@ -97,16 +97,16 @@ cuts (Some row) = stops row.end
     stops Unreached = true
 
 -- what a row's end says of its numbers
-abbrev pub Accords : Reach → Row → Type 0
-Accords Done row = (1 ≤ row.steps) × (row.steps ≤ 1000000)
-Accords Failed row = (1 ≤ row.steps) × (row.steps ≤ 1000000) × (row.bytes ≡ 0)
-Accords Unreached row = (row.steps ≡ 0) × (row.bytes ≡ 0) × (row.text ≡ replicate 32 0)
+abbrev pub NumbersFit : Reach → Row → Type 0
+NumbersFit Done row = (1 ≤ row.steps) × (row.steps ≤ 1000000)
+NumbersFit Failed row = (1 ≤ row.steps) × (row.steps ≤ 1000000) × (row.bytes ≡ 0)
+NumbersFit Unreached row = (row.steps ≡ 0) × (row.bytes ≡ 0) × (row.text ≡ replicate 32 0)
 
 -- the row of a node: its parent is below it, it is unreached exactly where its parent is failed or unreached, and its numbers accord with its end
 pub record IsSoundRow (costs : Costs) (v : ℕ) (row : Row) : Type 0 where
   pub parent : row.parent < v
-  pub unreached : is_unreached row.end ≡ cuts (row_of costs row.parent)
-  pub accords : Accords row.end row
+  pub unreached : is_unreached row.end ≡ is_dead_end (row_of costs row.parent)
+  pub numbers_fit : NumbersFit row.end row
 
 -- at most 512 rows, each of them sound, and no path longer than 64
 pub record IsSound (costs : Costs) : Type 0 where

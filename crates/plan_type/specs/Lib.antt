@@ -4,3 +4,5 @@ pub mod Plan
 pub mod Prices
 pub mod Operations
 pub mod PlanText
+pub mod Choices
+pub mod Offers

@@ -10,7 +10,7 @@ use Rattle.plan_type.specs.declared.operations.Operation.{Operation}
 use Rattle.plan_type.specs.declared.operations.Operation.TheVariants.{Reset, Compute, Checkpoint, Restore, Evict}
 use Rattle.plan_type.specs.Costs.{Tree, tree_of, IsReached}
 use Rattle.plan_type.specs.Plan.{is_none, work, peak}
-use Rattle.plan_type.specs.Prices.{Prices, no_prices}
+use Rattle.plan_type.specs.Prices.{Prices, prices_of, cost}
 
 -- ---- the list
 
@@ -59,15 +59,17 @@ operations_of costs budget p = Reset ∷ ops_at (tree_of costs budget.block) p 0
 
 -- ---- the machine
 
--- the live node or none, the stored nodes, what was paid so far, and the greatest sum of stored blocks so far
+-- the live node or none, and whether it was just computed, with no restore since; the stored nodes; the steps so far, and what was paid so far; and the greatest sum of stored blocks so far
 pub record Machine : Type 0 where
   pub live : Option ℕ
+  pub fresh : Bool
   pub stored : List ℕ
+  pub work : ℕ
   pub paid : ℕ
   pub greatest : ℕ
 
 abbrev pub start : Machine
-start = record { live = None; stored = []; paid = 0; greatest = 0 }
+start = record { live = None; fresh = false; stored = []; work = 0; paid = 0; greatest = 0 }
 
 abbrev pub stores : List ℕ → ℕ → Bool
 stores [] v = false
@@ -82,20 +84,20 @@ abbrev pub IsLive : Machine → Option ℕ → Type 0
 IsLive m None = ⊥
 IsLive m (Some u) = m.live ≡ Some u
 
--- which operations may come next: a node is computed from its live parent at its own steps, stored where it is live, not stored yet and there is room, and restored and given up where it is stored
+-- which operations may come next: a node is computed from its live parent at its own steps; stored where it is live and was just computed, is not stored yet and there is room; and restored and given up where it is stored
 abbrev pub Legal : Tree → ℕ → Operation → Machine → Type 0
 Legal tree most Reset m = Unit {0}
 Legal tree most (Compute v n) m = IsLive m (tree.parent v) × (n ≡ tree.steps v)
-Legal tree most (Checkpoint v b) m = (m.live ≡ Some v) × (stores m.stored v ≡ false) × (b ≡ tree.blocks v) × (sum_by tree.blocks m.stored + b ≤ most)
+Legal tree most (Checkpoint v b) m = (m.live ≡ Some v) × (m.fresh ≡ true) × (stores m.stored v ≡ false) × (b ≡ tree.blocks v) × (sum_by tree.blocks m.stored + b ≤ most)
 Legal tree most (Restore v) m = stores m.stored v ≡ true
 Legal tree most (Evict v) m = stores m.stored v ≡ true
 
 abbrev pub after : Tree → Prices → Operation → Machine → Machine
-after tree prices Reset m = record m { live = Some 0 }
-after tree prices (Compute v n) m = record m { live = Some v; paid = m.paid + n }
+after tree prices Reset m = record m { live = Some 0; fresh = false }
+after tree prices (Compute v n) m = record m { live = Some v; fresh = true; work = m.work + n; paid = m.paid + n }
 after tree prices (Checkpoint v b) m =
     record m { stored = v ∷ m.stored; paid = m.paid + prices.save * b; greatest = max m.greatest (sum_by tree.blocks m.stored + b) }
-after tree prices (Restore v) m = record m { live = Some v; paid = m.paid + prices.load * tree.blocks v }
+after tree prices (Restore v) m = record m { live = Some v; fresh = false; paid = m.paid + prices.load * tree.blocks v }
 after tree prices (Evict v) m = record m { stored = without m.stored v }
 
 abbrev pub after_all : Tree → Prices → Ops → Machine → Machine
@@ -119,12 +121,13 @@ computes (o ∷ os) v = computes_one o v || computes os v
 
 -- where the machine stands after these operations from nothing
 abbrev pub ran : Costs → Budget → Ops → Machine
-ran costs budget os = after_all (tree_of costs budget.block) no_prices os start
+ran costs budget os = after_all (tree_of costs budget.block) (prices_of budget) os start
 
--- from nothing the list is legal, ends with nothing stored, and computes each reached node; what it pays in steps and the greatest sum of stored blocks are the plan's cost and peak
+-- from nothing the list is legal, ends with nothing stored, and computes each reached node; its steps, what it pays and the greatest sum of stored blocks are the plan's work, cost and peak
 pub record CarriesOut (costs : Costs) (budget : Budget) (p : Plan) (os : Ops) : Type 0 where
-  pub legal : LegalAll (tree_of costs budget.block) no_prices budget.most os start
+  pub legal : LegalAll (tree_of costs budget.block) (prices_of budget) budget.most os start
   pub stored : (ran costs budget os).stored ≡ []
-  pub paid : (ran costs budget os).paid ≡ work costs p
+  pub work : (ran costs budget os).work ≡ work costs p
+  pub paid : (ran costs budget os).paid ≡ cost costs budget p
   pub greatest : (ran costs budget os).greatest ≡ peak costs budget p
   pub reached : (v : ℕ) → IsReached costs v → computes os v ≡ true

@@ -1,4 +1,4 @@
--- Plans: their class, their cost and peak, and which of them are least.
+-- Plans: their class, their work and their peak.
 use Rattle.std.specs.Prelude.{ℕ, ◌≡◌, ◌≤◌, ◌+◌, ◌*◌, ◌^◌, List, [], ◌∷◌, length, map, max, Bool, true, false, if◌then◌else◌, IsPermutation}
 use Rattle.std.specs.List.{AllByRecursion}
 use Rattle.plan_type.specs.declared.budget.Budget.{Budget}
@@ -37,7 +37,7 @@ pub record IsPlan (costs : Costs) (p : Plan) : Type 0 where
   pub orders : IsPlanOf (children_of costs) 0 p
   pub holds_none : HoldsNone (entries_of p)
 
--- ---- cost
+-- ---- work
 
 abbrev pub is_none : {X : Type 0} → List X → Bool
 is_none [] = true
@@ -59,7 +59,7 @@ layer_work steps d back = listed_work (entry_work steps back) back d.entries
 unfoldable pub work_at : (ℕ → ℕ) → Plan → ℕ → ℕ
 work_at steps = fold-Plan (ℕ → ℕ) (layer_work steps)
 
--- the steps of a whole plan, which are its cost
+-- the steps of a whole plan: each node's own as often as it is computed
 abbrev pub work : Costs → Plan → ℕ
 work costs p = work_at (steps_of costs) p 0
 
@@ -99,14 +99,9 @@ pub record IsWithin (costs : Costs) (u used : ℕ) : Type 0 where
   pub climbs : Climbs costs u way
   pub low : used ≤ length way * 2 ^ 56
 
--- ---- least
+-- ---- fitting
 
 -- a plan of the class that fits
 pub record Serves (costs : Costs) (budget : Budget) (p : Plan) : Type 0 where
   pub plan : IsPlan costs p
   pub fits : peak costs budget p ≤ budget.most
-
--- a plan of the class that fits, and that costs no more than any other of them
-pub record IsLeast (costs : Costs) (budget : Budget) (p : Plan) : Type 0 where
-  pub serves : Serves costs budget p
-  pub least : (q : Plan) → Serves costs budget q → work costs p ≤ work costs q

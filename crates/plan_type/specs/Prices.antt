@@ -1,10 +1,12 @@
--- The cost of a plan where saving and restoring have prices. The program's own prices are 0, and its cost is then the work of the plan.
-use Rattle.std.specs.Prelude.{ℕ, ◌+◌, ◌*◌, List, [], ◌∷◌, Bool, false, not, ◌&&◌, if◌then◌else◌}
+-- The cost of a plan where saving and restoring have prices, and which plans cost least. Where both prices are 0 the cost is the work of the plan.
+use Rattle.std.specs.Prelude.{ℕ, ◌≤◌, ◌+◌, ◌*◌, List, [], ◌∷◌, Bool, false, not, ◌&&◌, if◌then◌else◌}
+use Rattle.plan_type.specs.declared.budget.Budget.{Budget}
+use Rattle.plan_type.specs.declared.costs.Costs.{Costs}
 use Rattle.plan_type.specs.declared.plan.Plan.{Plan, fold-Plan}
 use Rattle.plan_type.specs.declared.plan.Plan.TheOpen.{Plan-F}
 use Rattle.plan_type.specs.declared.plan.Entry.{Entry}
-use Rattle.plan_type.specs.Costs.{Tree}
-use Rattle.plan_type.specs.Plan.{is_none}
+use Rattle.plan_type.specs.Costs.{Tree, tree_of}
+use Rattle.plan_type.specs.Plan.{is_none, Serves}
 
 -- in steps for each block of a snapshot
 pub record Prices : Type 0 where
@@ -36,3 +38,15 @@ layer_cost tree prices d u back again =
 
 unfoldable pub cost_at : Tree → Prices → Plan → Costing
 cost_at tree prices = fold-Plan Costing (layer_cost tree prices)
+
+abbrev pub prices_of : Budget → Prices
+prices_of budget = record { save = budget.save; load = budget.load }
+
+-- what a whole plan costs, in steps
+abbrev pub cost : Costs → Budget → Plan → ℕ
+cost costs budget p = cost_at (tree_of costs budget.block) (prices_of budget) p 0 0 0
+
+-- a plan of the class that fits, and that costs no more than any other of them
+pub record IsLeast (costs : Costs) (budget : Budget) (p : Plan) : Type 0 where
+  pub serves : Serves costs budget p
+  pub least : (q : Plan) → Serves costs budget q → cost costs budget p ≤ cost costs budget q

@@ -1,7 +1,7 @@
 //! The costs of all nodes of the merged tree.
 ghost use Rattle.std.specs.Prelude.{◌≡◌, ◌≤◌, ◌^◌, ◌++◌, ◌↔◌, [], ◌∷◌, length, cond, IsTrue, IfOk, OnOk};
 ghost use Rattle.std.specs.Option.{option_copied};
-ghost use Rattle.plan_type.specs.Costs.{row_of, steps_of, blocks_of, children_of, is_child_in, cuts, IsSoundRow, IsSound};
+ghost use Rattle.plan_type.specs.Costs.{row_of, steps_of, blocks_of, children_of, is_child_in, is_reached_in, is_dead_end, IsSoundRow, IsSound};
 
 use crate::row::{Reach, Row};
 use chex_base::{NoMemory, NodeId};
@@ -71,8 +71,18 @@ impl Costs {
         Ok(children)
     }
 
+    /// Whether a node runs.
+    pub fn is_reached(&self, node: NodeId) -> bool
+        ensures { result ≡ is_reached_in (row_of self.now node) }
+    {
+        match self.row(node) {
+            Some(row) => row.end.is_reached(),
+            None => false,
+        }
+    }
+
     /// Whether one node is a reached child of another.
-    fn is_child(&self, of: NodeId, node: NodeId) -> bool
+    pub fn is_child(&self, of: NodeId, node: NodeId) -> bool
         ensures { result ≡ is_child_in of (row_of self.now node) }
     {
         match self.row(node) {
@@ -113,12 +123,12 @@ impl Costs {
     {
         (row.parent.0 as usize) < node
             && row.end.is_unreached() == self.is_cut_below(row.parent)
-            && row.accords()
+            && row.numbers_fit()
     }
 
     /// Whether no child of this node is reached.
     fn is_cut_below(&self, node: NodeId) -> bool
-        ensures { result ≡ cuts (row_of self.now node) }
+        ensures { result ≡ is_dead_end (row_of self.now node) }
     {
         match self.row(node) {
             Some(row) => row.end != Reach::Done,

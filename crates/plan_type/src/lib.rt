@@ -4,19 +4,18 @@
 //! written.
 #![tactic(auto)]
 
-pub mod budget;
-pub mod costs;
-pub mod operations;
-pub mod plan;
-pub mod row;
-pub mod text;
+mod budget;
+mod costs;
+mod offer;
+mod operations;
+mod plan;
+mod row;
+mod text;
 
-pub use budget::Budget;
+pub use budget::{Budget, price};
 pub use costs::{Costs, Rows};
+pub use offer::{Fees, Offer, is_worth_holding, local, place_of_last};
 pub use operations::{Operation, Operations};
 pub use plan::{Entries, Entry, Plan};
 pub use row::{Reach, Row};
 pub use text::write_plan;
-
-#[cfg(test)]
-mod tests;

@@ -1,10 +1,11 @@
 //! Plans: an order of the nodes, and which snapshots are held.
-ghost use Rattle.std.specs.Prelude.{◌≡◌, ◌≤◌, ◌<◌, ◌^◌, if◌then◌else◌};
+ghost use Rattle.std.specs.Prelude.{◌≡◌, ◌≤◌, ◌<◌, ◌*◌, ◌^◌, ◌&&◌, not, if◌then◌else◌};
 ghost use Rattle.plan_type.specs.Budget.{IsBudget};
-ghost use Rattle.plan_type.specs.Costs.{IsSound, children_of, steps_of, blocks_of};
+ghost use Rattle.plan_type.specs.Costs.{IsSound, children_of, steps_of, blocks_of, tree_of};
 ghost use Rattle.plan_type.specs.Plan.{entries_of, IsPlan, IsPlanOf, IsPlanFrom, IsWithin, work, work_at, peak, peak_at};
+ghost use Rattle.plan_type.specs.Prices.{prices_of, cost, cost_at};
 
-use crate::budget::Budget;
+use crate::budget::{Budget, price};
 use crate::costs::Costs;
 use chex_base::NodeId;
 use sqlite_items::Items;
@@ -39,17 +40,17 @@ impl Plan {
         Plan { entries }
     }
 
-    /// What carrying out the plan costs, in steps: each node's steps as often as it is computed.
-    pub fn cost(&self, costs: &Costs) -> u64
+    /// The steps that carrying out the plan takes: each node's own as often as it is computed.
+    pub fn work(&self, costs: &Costs) -> u64
         requires sound { IsSound costs.now }
         requires class { IsPlan costs.now self.now }
         ensures { result ≡ work costs.now self.now }
     {
-        self.cost_from(costs, 0)
+        self.work_from(costs, 0)
     }
 
-    /// The cost of the plan of some node, where making that node again costs `back`.
-    fn cost_from(&self, costs: &Costs, back: u64) -> u64
+    /// The work of the plan of some node, where making that node again takes `back` steps.
+    fn work_from(&self, costs: &Costs, back: u64) -> u64
         requires sound { IsSound costs.now }
         requires class { IsPlanFrom costs.now self.now back }
         requires small { work_at (steps_of costs.now) self.now back < 2 ^ 63 }
@@ -62,13 +63,67 @@ impl Plan {
             let steps = costs.steps(entry.child);
             total += steps;
             if entry.hold {
-                total += entry.rest.cost_from(costs, steps);
+                total += entry.rest.work_from(costs, steps);
             } else {
-                total += entry.rest.cost_from(costs, back + steps);
+                total += entry.rest.work_from(costs, back + steps);
                 if left > 0 {
                     total += back;
                 }
             }
+        }
+        total
+    }
+
+    /// What carrying out the plan costs, in steps: its work, and the prices of storing and
+    /// restoring snapshots. A run of neighbouring entries that hold costs one save.
+    pub fn cost(&self, costs: &Costs, budget: &Budget) -> u64
+        requires sound { IsSound costs.now }
+        requires class { IsPlan costs.now self.now }
+        requires budget { IsBudget budget.now }
+        requires fits { peak costs.now budget.now self.now ≤ budget.now.most }
+        ensures cost { result ≡ cost costs.now budget.now self.now }
+
+        // Where nothing has a price, the cost is the work.
+        ensures free { budget.now.save ≡ 0 → budget.now.load ≡ 0 → result ≡ work costs.now self.now }
+    {
+        self.cost_from(costs, budget, NodeId(0), 0, 0)
+    }
+
+    /// The cost of the plan of the node `of`, where making that node again costs `back` steps and
+    /// `again` for what is restored.
+    fn cost_from(
+        &self,
+        costs: &Costs,
+        budget: &Budget,
+        of: NodeId,
+        back: u64,
+        again: u64,
+    ) -> u64
+        requires sound { IsSound costs.now }
+        requires class { IsPlanOf (children_of costs.now) of self.now }
+        requires budget { IsBudget budget.now }
+        requires fits { peak_at (blocks_of costs.now budget.now.block) self.now of 0 ≤ budget.now.most }
+        requires low { (back ≤ of * 1000000) × (again ≤ 1024000000) }
+        requires small { cost_at (tree_of costs.now budget.now.block) (prices_of budget.now) self.now of back again < 2 ^ 63 }
+        ensures { result ≡ cost_at (tree_of costs.now budget.now.block) (prices_of budget.now) self.now of back again }
+    {
+        let blocks = costs.blocks(of, budget.block);
+        let mut total = 0;
+        let mut held = false;
+        let mut left = self.entries.len();
+        for entry in self.entries.as_slice() {
+            left -= 1;
+            let load = price(entry.hold, budget.load, blocks);
+            let save = price(begins(entry.hold, held), budget.save, blocks);
+            let steps = costs.steps(entry.child);
+            let under = chosen(entry.hold, steps, back + steps);
+            let loads = chosen(entry.hold, load, again);
+            let rest = entry
+                .rest
+                .cost_from(costs, budget, entry.child, under, loads);
+            let next = chosen(entry.hold, load, back + again);
+            total += steps + rest + save + chosen(left == 0, 0, next);
+            held = entry.hold;
         }
         total
     }
@@ -101,9 +156,16 @@ impl Plan {
     }
 }
 
-/// What is used under an entry, for whether it holds.
-fn chosen(hold: bool, held: u64, free: u64) -> u64
-    ensures { result ≡ (if hold then held else free) }
+/// One number where something is so, and another where it is not.
+fn chosen(so: bool, yes: u64, no: u64) -> u64
+    ensures { result ≡ (if so then yes else no) }
 {
-    if hold { held } else { free }
+    if so { yes } else { no }
+}
+
+/// Whether a run of entries that hold begins here.
+fn begins(hold: bool, held: bool) -> bool
+    ensures { result ≡ (hold && not held) }
+{
+    hold && !held
 }

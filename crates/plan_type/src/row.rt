@@ -1,7 +1,7 @@
 //! What is known of one node of the merged tree.
 ghost use Rattle.std.specs.Prelude.{◌≡◌, ◌≤◌, ◌^◌, ◌↔◌, IsTrue};
 ghost use Rattle.std.specs.Int.{div_ceil};
-ghost use Rattle.plan_type.specs.Costs.{is_reached, is_unreached, Accords};
+ghost use Rattle.plan_type.specs.Costs.{is_reached, is_unreached, NumbersFit};
 
 use chex_base::NodeId;
 
@@ -60,8 +60,8 @@ impl Row {
     }
 
     /// Whether the numbers accord with how the node ended.
-    pub(crate) fn accords(&self) -> bool
-        ensures { IsTrue result ↔ Accords self.now.end self.now }
+    pub(crate) fn numbers_fit(&self) -> bool
+        ensures { IsTrue result ↔ NumbersFit self.now.end self.now }
     {
         let runs = 1 <= self.steps && self.steps <= 1_000_000;
         match self.end {

@@ -9,14 +9,21 @@ cost-cost-requires-clause-class c =
     (accepted c.args.costs.now c.args.budget.now c.args.text.now c.in_ok-lines.lines.items c.deref-3.result.now c.in_ok-plan.plan c.in_ok-plan.field-0-1 c.in_ok-lines.ensures c.deref-3.ensures.value
     (ap (wrong_child c.args.costs.now) (sym c.deref.ensures.value) ∙ sym c.in_ok-node.ensures ∙ (search rules))
     (ap (over_budget c.args.costs.now c.args.budget.now) (sym c.deref-2.ensures.value) ∙ sym c.in_ok-node-2.ensures ∙ (search rules))
-    c.in_ok-plan.ensures.told c.in_ok-plan.ensures.under).serves.plan
+    c.in_ok-plan.ensures.lines_of c.in_ok-plan.ensures.under).serves.plan
+
+pub cost-cost-requires-clause-fits : goal.cost-cost-requires-clause-fits
+cost-cost-requires-clause-fits c =
+    (accepted c.args.costs.now c.args.budget.now c.args.text.now c.in_ok-lines.lines.items c.deref-3.result.now c.in_ok-plan.plan c.in_ok-plan.field-0-1 c.in_ok-lines.ensures c.deref-3.ensures.value
+    (ap (wrong_child c.args.costs.now) (sym c.deref.ensures.value) ∙ sym c.in_ok-node.ensures ∙ (search rules))
+    (ap (over_budget c.args.costs.now c.args.budget.now) (sym c.deref-2.ensures.value) ∙ sym c.in_ok-node-2.ensures ∙ (search rules))
+    c.in_ok-plan.ensures.lines_of c.in_ok-plan.ensures.under).serves.fits
 
 pub peak-peak-requires-clause-class : goal.peak-peak-requires-clause-class
 peak-peak-requires-clause-class c =
     (accepted c.args.costs.now c.args.budget.now c.args.text.now c.in_ok-lines.lines.items c.deref-3.result.now c.in_ok-plan.plan c.in_ok-plan.field-0-1 c.in_ok-lines.ensures c.deref-3.ensures.value
     (ap (wrong_child c.args.costs.now) (sym c.deref.ensures.value) ∙ sym c.in_ok-node.ensures ∙ (search rules))
     (ap (over_budget c.args.costs.now c.args.budget.now) (sym c.deref-2.ensures.value) ∙ sym c.in_ok-node-2.ensures ∙ (search rules))
-    c.in_ok-plan.ensures.told c.in_ok-plan.ensures.under).serves.plan
+    c.in_ok-plan.ensures.lines_of c.in_ok-plan.ensures.under).serves.plan
 
 pub returns-clause-clean : goal.returns-clause-clean
 returns-clause-clean c = record {
@@ -31,5 +38,5 @@ returns-clause-ok c =
     let known = accepted c.args.costs.now c.args.budget.now c.args.text.now c.in_ok-lines.lines.items c.deref-3.result.now c.in_ok-plan.plan c.in_ok-plan.field-0-1 c.in_ok-lines.ensures c.deref-3.ensures.value
     (ap (wrong_child c.args.costs.now) (sym c.deref.ensures.value) ∙ sym c.in_ok-node.ensures ∙ (search rules))
     (ap (over_budget c.args.costs.now c.args.budget.now) (sym c.deref-2.ensures.value) ∙ sym c.in_ok-node-2.ensures ∙ (search rules))
-    c.in_ok-plan.ensures.told c.in_ok-plan.ensures.under in
-    record { serves = known.serves; is = known.is; cost = c.cost-cost.ensures; peak = c.peak-peak.ensures }
+    c.in_ok-plan.ensures.lines_of c.in_ok-plan.ensures.under in
+    record { serves = known.serves; is = known.is; cost = c.cost-cost.ensures.cost; peak = c.peak-peak.ensures }

@@ -1,6 +1,0 @@
-use Rattle.std.proofs.Common.{arith}
-use Rattle.plan_optimum.proofs.OfferLemmas.{other_room}
-use Rattle.plan_optimum.proofs.offer.others.Goals as goal
-
-pub overflow_add-total : goal.overflow_add-total
-overflow_add-total c = let a = other_room c.args.back c.args.offers.now c.loop-offer.offer-index (record { free = 0; held = 0 }) c.loop-offer-test.true in omega (arith, a)
