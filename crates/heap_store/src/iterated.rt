@@ -31,12 +31,7 @@ pub fn count(of: &Value, machine: &Machine) -> Option<u128>
 /// The item that a value gives at a place below its count. It is copied, and takes time linear in
 /// the item; an integer of a range is computed, and an item of a dict is the key as a value.
 #[tactic(auto, using(crate::proofs::GivenItems::items, crate::proofs::GivenItems::within))]
-pub fn item(
-    alloc: Global,
-    of: &Value,
-    machine: &Machine,
-    place: u128,
-) -> Result<Value, NoMemory>
+pub fn item(alloc: Global, of: &Value, machine: &Machine, place: u128) -> Result<Value, NoMemory>
     requires fit { IsTrue (fits machine.now.state.objects of.now) }
     requires within { IsSomeAnd (option_map length (items_in machine.now.state of.now)) (λ count. place < count) }
     ensures value { (items : List AValue) → items_in machine.now.state of.now ≡ Some items → IfOk result (λ v. slice_get items place ≡ Some v) }
