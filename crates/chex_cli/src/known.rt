@@ -11,7 +11,8 @@ use std::collections::BTreeMap;
 use std::marker::Model;
 
 /// The cells of the sources that were looked at so far, by source, so that equal sources are looked
-/// at once. A look-up takes a number of comparisons that grows with the logarithm of the count.
+/// at once. A look-up takes a number of comparisons that grows with the logarithm of the count. The
+/// copies of a cell share its tree.
 #[derive(Drop)]
 pub struct Known {
     cells: BTreeMap<Text, Cell>,

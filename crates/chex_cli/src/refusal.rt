@@ -46,8 +46,8 @@ impl Refusal {
             Refusal::Absent { file } => absent_line(alloc, file.as_str()),
             Refusal::ReadFailed { file } => failed_line(alloc, file.as_str()),
             Refusal::BadFile { file, fault } => {
-                let reason = reason(alloc, fault)?;
-                bad_line(alloc, file.as_str(), reason.as_str())
+                let why = reason(alloc, fault)?;
+                bad_line(alloc, file.as_str(), why.as_str())
             }
             Refusal::NoMemory => Ok(String::new(alloc)),
         }

@@ -21,7 +21,7 @@ fn notebook(alloc: Global, text: &str) -> Result<String, AllocError> {
 }
 
 // Each version's name, notebook and inputs, or the refusal.
-fn manifest(alloc: Global, text: &str) -> Result<String, AllocError> {
+fn versions_shown(alloc: Global, text: &str) -> Result<String, AllocError> {
     match read_manifest(alloc, text.as_bytes()) {
         Ok(manifest) => {
             let mut shown = String::new(alloc);
@@ -68,7 +68,7 @@ enum Reader {
 fn outcome(alloc: Global, reader: Reader, text: &str) -> Result<String, AllocError> {
     match reader {
         Reader::Notebook => notebook(alloc, text),
-        Reader::Manifest => manifest(alloc, text),
+        Reader::Manifest => versions_shown(alloc, text),
         Reader::Inputs => input(alloc, text),
     }
 }
@@ -284,7 +284,7 @@ const MANIFESTS: [(&str, &str); 20] = [
 #[test]
 fn manifests_are_read_or_refused(rt: HostRuntime) -> Result<(), Fail> {
     for (text, want) in MANIFESTS {
-        let found = manifest(rt.alloc(), text)?;
+        let found = versions_shown(rt.alloc(), text)?;
         assert_eq!(rt; found.as_str(), want, "at {text}");
     }
     Ok(())
