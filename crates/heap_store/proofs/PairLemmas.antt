@@ -67,6 +67,20 @@ module _ (test : Value → Bool) (key : Key) where
   all_without [] h = refl
   all_without (pair ∷ pairs) h = left_here pair pairs (same_key key pair.0) h (all_without pairs (rest_passes pair pairs h))
 
+-- the same of the values alone
+module _ (test : Value → Bool) (key : Key) (v : Value) (fine : IsTrue (test v)) where
+  abbrev pub Values : Pairs → Type 0
+  Values pairs = IsTrue (list_all (λ pair. test pair.1) pairs)
+
+  value_here : (pair : Key × Value) (pairs : Pairs) (b : Bool) → Values (pair ∷ pairs) → Values (dict_put pairs key v) → Values (cond b ((pair.0, v) ∷ pairs) (pair ∷ dict_put pairs key v))
+  value_here pair pairs true h more = and_both (test v) (list_all (λ p. test p.1) pairs) fine (and_right (test pair.1) (list_all (λ p. test p.1) pairs) h)
+  value_here pair pairs false h more = and_both (test pair.1) (list_all (λ p. test p.1) (dict_put pairs key v)) (and_left (test pair.1) (list_all (λ p. test p.1) pairs) h) more
+
+  pub values_put : (pairs : Pairs) → Values pairs → Values (dict_put pairs key v)
+  unfolding dict_put
+  values_put [] h = and_both (test v) true fine refl
+  values_put (pair ∷ pairs) h = value_here pair pairs (same_key key pair.0) h (values_put pairs (and_right (test pair.1) (list_all (λ p. test p.1) pairs) h))
+
 -- ---- distinct keys
 
 abbrev stands : Key → Pairs → Bool

@@ -1,7 +1,9 @@
 -- Single references, and what an object's kind says of it.
-use Rattle.std.proofs.Common.{◌≡◌, ℕ, Bool, ◌||◌, List, refl, IsTrue, Option, Some, None, slice_get}
+use Rattle.std.proofs.Common.{◌≡◌, ℕ, Bool, ◌||◌, List, [], ◌∷◌, map, refl, IsTrue, Option, Some, None, slice_get}
 use Rattle.std.specs.Prelude.{ℤ, option_map}
-use Rattle.star_value.specs.declared.value.Value.{fold-roll-Value}
+use Rattle.std.specs.List.{list_all}
+use Rattle.star_value.specs.declared.range.Range.{Range}
+use Rattle.star_value.specs.declared.value.Value.{Value, fold-roll-Value}
 use Rattle.star_value.specs.declared.value.Value.TheVariants as value
 use Rattle.star_meaning.specs.State.{Object, AList, ADict, AFunction}
 use Rattle.star_meaning.specs.Validity.{is_list, is_dict, is_function, fits, fits_step}
@@ -19,6 +21,29 @@ fits_int os n = rw (← value.rolls-Int n, fold-roll-Value Bool (fits_step os)) 
 pub fits_none : (os : List (Object ℕ)) → IsTrue (fits os value.None)
 unfolding fits
 fits_none os = rw (← value.rolls-None, fold-roll-Value Bool (fits_step os)) refl
+
+pub fits_dict : (os : List (Object ℕ)) (id : ℕ) → IsTrue (is_dict (slice_get os id)) → IsTrue (fits os (value.Dict id))
+unfolding fits
+fits_dict os id is = rw (← value.rolls-Dict id, fold-roll-Value Bool (fits_step os)) is
+
+pub fits_function : (os : List (Object ℕ)) (id : ℕ) → IsTrue (is_function (slice_get os id)) → IsTrue (fits os (value.Function id))
+unfolding fits
+fits_function os id is = rw (← value.rolls-Function id, fold-roll-Value Bool (fits_step os)) is
+
+pub fits_range : (os : List (Object ℕ)) (r : Range) → IsTrue (fits os (value.Range r))
+unfolding fits
+fits_range os r = rw (← value.rolls-Range r, fold-roll-Value Bool (fits_step os)) refl
+
+pub fits_text : (os : List (Object ℕ)) (points : List ℕ) → IsTrue (fits os (value.Text points))
+unfolding fits
+fits_text os points = rw (← value.rolls-Text points, fold-roll-Value Bool (fits_step os)) refl
+
+fits_tuple : (os : List (Object ℕ)) (items : List Value) → IsTrue (list_all (λ b. b) (map (fits os) items)) → IsTrue (fits os (value.Tuple items))
+unfolding fits
+fits_tuple os items h = rw (← value.rolls-Tuple items, fold-roll-Value Bool (fits_step os)) h
+
+pub fits_two : (os : List (Object ℕ)) (m n : ℤ) → IsTrue (fits os (value.Tuple (value.Int m ∷ value.Int n ∷ [])))
+fits_two os m n = fits_tuple os (value.Int m ∷ value.Int n ∷ []) (rw (fits_int os m, fits_int os n) refl)
 
 pub kind_list : (o : Option (Object ℕ)) → option_map kind_of o ≡ Some kind.List → IsTrue (is_list o)
 kind_list (Some (AList items)) h = refl

@@ -6,6 +6,10 @@
 #![tactic(auto)]
 
 #[cfg(test)]
+mod dicts;
+#[cfg(test)]
+mod iterated;
+#[cfg(test)]
 mod lexer;
 #[cfg(test)]
 mod long_sources;

@@ -11,13 +11,13 @@ use std::process::Abort;
 use std::test::Fail;
 
 /// A machine in which the cell of node 1 runs.
-fn entered(alloc: Global) -> Result<Machine, NoMemory> {
+pub fn entered(alloc: Global) -> Result<Machine, NoMemory> {
     let mut machine = Machine::new(alloc);
     machine.enter(NodeId(1))?;
     Ok(machine)
 }
 
-fn expect_room(rt: &impl Abort, machine: &Machine)
+pub fn expect_room(rt: &impl Abort, machine: &Machine)
     ensures { length machine.now.state.objects < 1000000 * length machine.now.ran }
 {
     assert!(rt; machine.ran().len() == 1);
@@ -25,7 +25,7 @@ fn expect_room(rt: &impl Abort, machine: &Machine)
 }
 
 #[tactic(auto, using(crate::proofs::Fitting::kind_list))]
-fn expect_list(rt: &impl Abort, machine: &Machine, id: ObjectId)
+pub fn expect_list(rt: &impl Abort, machine: &Machine, id: ObjectId)
     ensures { IsTrue (is_list (slice_get machine.now.state.objects id)) }
 {
     assert!(rt; id.0 < machine.objects());
@@ -33,7 +33,7 @@ fn expect_list(rt: &impl Abort, machine: &Machine, id: ObjectId)
 }
 
 #[tactic(auto, using(crate::proofs::Fitting::kind_dict))]
-fn expect_dict(rt: &impl Abort, machine: &Machine, id: ObjectId)
+pub fn expect_dict(rt: &impl Abort, machine: &Machine, id: ObjectId)
     ensures { IsTrue (is_dict (slice_get machine.now.state.objects id)) }
 {
     assert!(rt; id.0 < machine.objects());
@@ -41,20 +41,20 @@ fn expect_dict(rt: &impl Abort, machine: &Machine, id: ObjectId)
 }
 
 #[tactic(auto, using(crate::proofs::Fitting::kind_function))]
-fn expect_function(rt: &impl Abort, machine: &Machine, id: ObjectId)
+pub fn expect_function(rt: &impl Abort, machine: &Machine, id: ObjectId)
     ensures { IsTrue (is_function (slice_get machine.now.state.objects id)) }
 {
     assert!(rt; id.0 < machine.objects());
     assert!(rt; matches!(machine.kind(id), Kind::Function));
 }
 
-fn list(rt: &impl Abort, alloc: Global, machine: &mut Machine) -> Result<ObjectId, NoMemory> {
+pub fn list(rt: &impl Abort, alloc: Global, machine: &mut Machine) -> Result<ObjectId, NoMemory> {
     expect_room(rt, machine);
     machine.new_list(Items::new(alloc))
 }
 
 #[tactic(auto, using(crate::proofs::Fitting::fits_int))]
-fn insert(
+pub fn insert(
     rt: &impl Abort,
     machine: &mut Machine,
     id: ObjectId,
@@ -92,7 +92,7 @@ fn clear(rt: &impl Abort, machine: &mut Machine, id: ObjectId) {
     machine.clear(id);
 }
 
-fn value_shows(
+pub fn value_shows(
     rt: &impl Abort,
     alloc: Global,
     value: &Value,
@@ -134,7 +134,7 @@ fn items_stand_where_they_were_put(rt: HostRuntime) -> Result<(), Fail> {
 }
 
 #[tactic(auto, using(crate::proofs::Fitting::fits_list))]
-fn name(
+pub fn name(
     rt: &impl Abort,
     alloc: Global,
     machine: &mut Machine,
@@ -160,7 +160,7 @@ fn name_shows(
     value_shows(rt, alloc, value, expected)
 }
 
-fn found_shows(
+pub fn found_shows(
     rt: &impl Abort,
     alloc: Global,
     found: Option<&Value>,
@@ -191,6 +191,31 @@ fn names_rise_and_lead_to_one_object(rt: HostRuntime) -> Result<(), Fail> {
     Ok(())
 }
 
+/// The global names in their order, each with a space behind it.
+fn names(alloc: Global, machine: &Machine) -> Result<String, NoMemory> {
+    let mut shown = String::new(alloc);
+    for (name, value) in machine.global_entries() {
+        let entry = format!(in alloc; "{} {value:?}; ", name.as_str())?;
+        shown.push_str(entry.as_str())?;
+    }
+    Ok(shown)
+}
+
+#[test]
+fn names_are_walked_in_their_order(rt: HostRuntime) -> Result<(), Fail> {
+    let alloc = rt.alloc();
+    let mut machine = entered(alloc)?;
+    assert_eq!(rt; names(alloc, &machine)?.as_str(), "");
+    let first = list(&rt, alloc, &mut machine)?;
+    let id = list(&rt, alloc, &mut machine)?;
+    name(&rt, alloc, &mut machine, "\u{e9}", id)?;
+    name(&rt, alloc, &mut machine, "a", first)?;
+    name(&rt, alloc, &mut machine, "B", id)?;
+    let expected = "B List(ObjectId(1)); a List(ObjectId(0)); \u{e9} List(ObjectId(1)); ";
+    assert_eq!(rt; names(alloc, &machine)?.as_str(), expected);
+    Ok(())
+}
+
 #[test]
 fn a_name_is_found_once_it_is_bound(rt: HostRuntime) -> Result<(), Fail> {
     let alloc = rt.alloc();
@@ -203,13 +228,13 @@ fn a_name_is_found_once_it_is_bound(rt: HostRuntime) -> Result<(), Fail> {
     Ok(())
 }
 
-fn dict(rt: &impl Abort, machine: &mut Machine) -> Result<ObjectId, NoMemory> {
+pub fn dict(rt: &impl Abort, machine: &mut Machine) -> Result<ObjectId, NoMemory> {
     expect_room(rt, machine);
     machine.new_dict()
 }
 
 #[tactic(auto, using(crate::proofs::Fitting::fits_int))]
-fn put(
+pub fn put(
     rt: &impl Abort,
     machine: &mut Machine,
     id: ObjectId,
@@ -220,7 +245,7 @@ fn put(
     machine.dict_put(id, Key::Int(key), Value::Int(number))
 }
 
-fn take(
+pub fn take(
     rt: &impl Abort,
     alloc: Global,
     machine: &mut Machine,
@@ -236,7 +261,7 @@ fn take(
 }
 
 /// The pair at a place, counted in order of insertion.
-fn pair_shows(
+pub fn pair_shows(
     rt: &impl Abort,
     alloc: Global,
     machine: &Machine,
@@ -252,7 +277,7 @@ fn pair_shows(
     Ok(())
 }
 
-fn has_pairs(rt: &impl Abort, machine: &Machine, id: ObjectId, count: usize) {
+pub fn has_pairs(rt: &impl Abort, machine: &Machine, id: ObjectId, count: usize) {
     expect_dict(rt, machine, id);
     assert_eq!(rt; machine.dict_len(id), count);
 }
@@ -296,7 +321,41 @@ fn a_removed_key_closes_up(rt: HostRuntime) -> Result<(), Fail> {
 }
 
 #[tactic(auto, using(crate::proofs::Fitting::fits_int))]
-fn function(
+fn extend(
+    rt: &impl Abort,
+    alloc: Global,
+    machine: &mut Machine,
+    id: ObjectId,
+    number: i128,
+) -> Result<(), NoMemory> {
+    expect_list(rt, machine, id);
+    let mut more = Items::new(alloc);
+    more.push(Value::Int(number))?;
+    more.push(Value::Int(-number))?;
+    machine.list_extend(id, more)
+}
+
+#[test]
+fn items_are_moved_to_the_end(rt: HostRuntime) -> Result<(), Fail> {
+    let alloc = rt.alloc();
+    let mut machine = entered(alloc)?;
+    let other = list(&rt, alloc, &mut machine)?;
+    let id = list(&rt, alloc, &mut machine)?;
+    extend(&rt, alloc, &mut machine, id, 5)?;
+    extend(&rt, alloc, &mut machine, id, 7)?;
+    list_shows(
+        &rt,
+        alloc,
+        &machine,
+        id,
+        "[Int(5), Int(-5), Int(7), Int(-7)]",
+    )?;
+    list_shows(&rt, alloc, &machine, other, "[]")?;
+    Ok(())
+}
+
+#[tactic(auto, using(crate::proofs::Fitting::fits_int))]
+pub fn function(
     rt: &impl Abort,
     alloc: Global,
     machine: &mut Machine,

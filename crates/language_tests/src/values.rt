@@ -193,11 +193,32 @@ fn value_row(
             let again = key.copy(alloc)?.value(alloc)?;
             assert_eq!(rt; again.weight(), weight, "{row}");
             assert_eq!(rt; again.depth(), depth, "{row}");
+            same_key_row(rt, alloc, row, copy, &key)?;
         }
         Err(stop) => {
             assert!(rt; !is_key, "{row}");
             assert_eq!(rt; stop, Stop::Failure(Failure::Unhashable), "{row}");
+            let Err(stop) = Key::from_value(alloc, copy) else {
+                panic!(rt; "{row}");
+            };
+            assert_eq!(rt; stop, Stop::Failure(Failure::Unhashable), "{row}");
         }
+    }
+    Ok(())
+}
+
+/// A value that is handed over becomes the key that it is.
+fn same_key_row(
+    rt: &impl Abort,
+    alloc: Global,
+    row: &str,
+    value: Value,
+    expected: &Key,
+) -> Result<(), NoMemory> {
+    match Key::from_value(alloc, value) {
+        Ok(key) => assert!(rt; key == *expected, "{row}"),
+        Err(Stop::NoMemory) => return Err(NoMemory),
+        Err(Stop::Failure(_)) => panic!(rt; "{row}"),
     }
     Ok(())
 }
@@ -271,6 +292,33 @@ fn keys_are_in_order(rt: HostRuntime) -> Result<(), Fail> {
 
 fn range(start: i128, stop: i128, step: i128) -> Range {
     Range { start, stop, step }
+}
+
+fn range_row(rt: &impl Abort, of: Range, place: u128, expected: i128) {
+    assert!(rt; place < of.len(), "{place}");
+    assert_eq!(rt; of.item(place), expected, "{place}");
+}
+
+#[test]
+fn ranges_give_integers_at_places(rt: HostRuntime) {
+    range_row(&rt, range(0, 3, 1), 0, 0);
+    range_row(&rt, range(0, 3, 1), 2, 2);
+    range_row(&rt, range(5, 0, -2), 1, 3);
+    range_row(&rt, range(5, 0, -2), 2, 1);
+    range_row(&rt, range(-3, 10, 5), 2, 7);
+    range_row(
+        &rt,
+        range(i128::MIN, i128::MAX, 1),
+        u128::MAX - 1,
+        i128::MAX - 1,
+    );
+    range_row(&rt, range(i128::MAX, i128::MIN, i128::MIN), 1, -1);
+    range_row(
+        &rt,
+        range(i128::MIN, i128::MAX, i128::MAX),
+        2,
+        i128::MAX - 1,
+    );
 }
 
 #[test]
