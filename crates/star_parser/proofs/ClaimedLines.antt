@@ -17,7 +17,7 @@ use Rattle.star_syntax.specs.declared.statement.Statement.{Statement, roll-State
 use Rattle.star_syntax.specs.declared.statement.Statement.TheOpen.{Statement-F}
 use Rattle.star_syntax.specs.declared.statement.Module.{Module}
 use Rattle.star_syntax.specs.Spelling.{Tokens, expr_spelling, tests_spelling, small_spelling, parameters_spelling, if_written}
-use Rattle.star_parser.specs.Reading.{Input, kinds}
+use Rattle.star_parser.specs.Reading.{Input}
 use Rattle.star_parser.specs.Lines.{Lines, inner, begun, lines_of_small, lines_of_smalls, lines_of_line, lines_of_block, lines_of_branch, lines_of_else, lines_of_for, lines_of_def, lines_of_layer, lines_of_statement, lines_of, StandOn}
 use Rattle.star_parser.specs.Trees.{IsTree}
 use Rattle.star_parser.proofs.Claims.{Claims, free, plain, first_claimed, small_claims, smalls_claims, line_claims, branch_header, else_header, for_header, def_header, statement_claims, module_claims, Matches, IsClaimed}

@@ -1,12 +1,10 @@
 -- Comparisons are read exactly.
 use Rattle.std.proofs.Common.{◌≡◌, ◌∙◌, ◌⊎◌, inl, inr, ℕ, ◌≤◌, ◌<◌, [], ◌∷◌, ◌++◌, Option, Some, None, Ok, refl, sym, ap, subst, arith, length}
 use Rattle.std.proofs.lemmas.List.{append-nil}
-use Rattle.std.specs.Prelude.{if◌then◌else◌}
 use Rattle.star_syntax.specs.declared.token.Token.{Token}
 use Rattle.star_syntax.specs.declared.token.Token.TheVariants as t
 use Rattle.star_syntax.specs.declared.token.Keyword.TheVariants as w
 use Rattle.star_syntax.specs.declared.token.Mark.TheVariants as m
-use Rattle.star_syntax.specs.declared.token.Spanned.{Spanned}
 use Rattle.star_syntax.specs.declared.operator.CompareOp.{CompareOp}
 use Rattle.star_syntax.specs.declared.operator.CompareOp.TheVariants as cmp
 use Rattle.star_syntax.specs.declared.expression.Expr.{Expr, roll-Expr}
@@ -18,14 +16,14 @@ use Rattle.star_syntax.specs.Levels.{IsLevelled, Fits, rank, layer_rank}
 use Rattle.star_syntax.proofs.Levelled.{Each}
 use Rattle.star_parser.specs.declared.level.Level.{Level}
 use Rattle.star_parser.specs.declared.level.Level.TheVariants as level
-use Rattle.star_parser.specs.Reading.{Input, Reader, ◌>>=◌, ◌>>◌, pure, next, skip, kinds}
-use Rattle.star_parser.specs.Tables.{compare_op, expect_word, eat_word}
+use Rattle.star_parser.specs.Reading.{Input, Reader, ◌>>◌, next, skip, kinds}
+use Rattle.star_parser.specs.Tables.{compare_op, expect_word}
 use Rattle.star_parser.specs.Readers.{compared, compare_by, compare}
 use Rattle.star_parser.specs.Ends.{reach, Ends}
 use Rattle.star_parser.proofs.Exact.{Exact, Then, Just, exact_then, exact_by, exact_same, exact_pure}
-use Rattle.star_parser.proofs.Steps.{Tok, exact_skip, some_token, exact_token_then, exact_last, exact_expect_word, exact_eat_word}
+use Rattle.star_parser.proofs.Steps.{Tok, some_token, exact_token_then, exact_last}
 use Rattle.star_parser.proofs.Words.{exact_word_then}
-use Rattle.star_parser.proofs.Rules.{IsExpr, lower, kinds_split, kinds_cons, kinds_append, length_after, length_less, some_is}
+use Rattle.star_parser.proofs.Rules.{IsExpr, lower, kinds_split, kinds_cons, kinds_append, length_after, some_is}
 use Rattle.star_parser.proofs.Chains.{ReadsBelow, rank_few}
 use Rattle.star_parser.proofs.First.{node_or_higher, made_is, last_there, last_back}
 

@@ -6,7 +6,7 @@ use Rattle.star_syntax.specs.declared.expression.Pair.{Pair}
 use Rattle.star_syntax.specs.declared.expression.Expr.{Expr}
 use Rattle.star_syntax.specs.declared.expression.Expr.TheVariants as e
 use Rattle.star_parser.specs.declared.level.Level.{Level}
-use Rattle.star_parser.specs.Reading.{Input, Outcome, Reader, and_then, ◌>>=◌, ◌>>◌, pure}
+use Rattle.star_parser.specs.Reading.{Input, Outcome, Reader, and_then, ◌>>=◌, pure}
 use Rattle.star_parser.specs.Tables.{expect}
 use Rattle.star_parser.specs.Readers.{clauses_from, list_over, dict_over}
 use Rattle.star_parser.specs.Parts.{closed_clauses}
