@@ -47,7 +47,10 @@ fn main(rt: HostRuntime) -> io::Result<()> {
     };
     let cost = plan.cost(&costs, &budget);
     let peak = plan.peak(&costs, &budget);
-    println!(rt; "{} nodes: cost {cost} steps, peak {peak} of {} blocks", task.nodes, task.most)?;
+    println!(rt;
+        "{} nodes: cost {cost} steps, peak {peak} of {} blocks",
+        task.nodes, task.most
+    )?;
     Ok(())
 }
 

@@ -12,4 +12,3 @@ mod wrong;
 
 pub use fault::CheckFault;
 pub use verdict::{Verdict, check};
-

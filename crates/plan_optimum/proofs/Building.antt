@@ -1,16 +1,16 @@
 -- The plan that is built for a node.
-use Rattle.std.proofs.Common.{◌≡◌, ◌∙◌, ℕ, zero, suc, ◌+◌, ◌-◌, ◌*◌, ◌<◌, ◌≤◌, List, [], ◌∷◌, ◌++◌, map, take, length, get_or, Bool, true, false, not, ◌&&◌, refl, sym, ap, subst, arith, inl, inr, ◌⊎◌, Option, Some, None}
-use Rattle.std.specs.Prelude.{if◌then◌else◌, IsPermutation, nat_lt}
+use Rattle.std.proofs.Common.{◌≡◌, ◌∙◌, ℕ, zero, suc, ◌+◌, ◌*◌, ◌<◌, ◌≤◌, List, [], ◌∷◌, ◌++◌, map, take, length, get_or, Bool, true, false, not, ◌&&◌, refl, sym, ap, subst, arith, Some}
+use Rattle.std.specs.Prelude.{if◌then◌else◌, IsPermutation}
 use Rattle.std.specs.List.{AllByRecursion}
 use Rattle.std.proofs.lemmas.List.{take_more}
 use Rattle.std.proofs.lemmas.Bool.Decides.{nat_tests}
 use Rattle.std.proofs.lemmas.List.Sorted.{All-permutation, IsPermutation-sym}
-use Rattle.std.proofs.lemmas.List.Elements.{recursion_from_All, All-from_recursion}
+use Rattle.std.proofs.lemmas.List.Elements.{recursion_from_All}
 use Rattle.plan_type.specs.declared.costs.Costs.{Costs}
 use Rattle.plan_type.specs.declared.plan.Plan.{Plan}
 use Rattle.plan_type.specs.declared.plan.Entry.{Entry}
 use Rattle.plan_type.specs.Costs.{IsSound, parent_of, tree_of, children_of, steps_of, blocks_of}
-use Rattle.plan_type.specs.Plan.{named, is_none, entries_of, IsPlanOf, HoldsNone, greatest, peak_at}
+use Rattle.plan_type.specs.Plan.{named, entries_of, IsPlanOf, HoldsNone, greatest, peak_at}
 use Rattle.plan_type.specs.Prices.{prices_of, listed_cost, cost_at}
 use Rattle.plan_type.specs.Choices.{Choice, can_hold}
 use Rattle.plan_type.proofs.PlanParts.{rest_cost, cost_parts, rest_peak, peak_parts}
@@ -18,7 +18,6 @@ use Rattle.plan_type.proofs.Sound.{grows}
 use Rattle.plan_type.proofs.Tested.{plan_seen}
 use Rattle.plan_optimum.specs.declared.planner.Planner.{Planner}
 use Rattle.plan_optimum.specs.declared.standing.Standing.{Standing}
-use Rattle.plan_optimum.specs.Sites.{site_at}
 use Rattle.plan_optimum.specs.Entries.{IsReady, IsStanding, under, standing_way, value_at, choice_at, may_hold}
 use Rattle.plan_optimum.specs.Chosen.{Pick, cost_by, return_by, IsChosen}
 use Rattle.plan_optimum.specs.Built.{IsBuilt, IsEntry, bare}

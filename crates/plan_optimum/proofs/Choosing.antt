@@ -1,5 +1,5 @@
 -- The entries that are chosen are the children in an order, and cost the least.
-use Rattle.std.proofs.Common.{◌≡◌, ◌≢◌, ◌∙◌, ℕ, zero, suc, ◌+◌, ◌-◌, ◌*◌, ◌<◌, ◌≤◌, List, [], ◌∷◌, ◌++◌, map, length, get_or, min, cond, Bool, true, false, not, ◌&&◌, refl, sym, ap, subst, arith, inl, inr, ◌⊎◌, append_assoc}
+use Rattle.std.proofs.Common.{◌≡◌, ◌∙◌, ℕ, zero, suc, ◌+◌, ◌-◌, ◌*◌, ◌<◌, ◌≤◌, List, [], ◌∷◌, ◌++◌, map, length, get_or, min, cond, Bool, true, false, not, refl, sym, ap, subst, arith, inl, inr, ◌⊎◌, append_assoc}
 use Rattle.std.specs.Prelude.{if◌then◌else◌, IsPermutation, nat_lt, sum_by, IfOk, Result, Ok, Err}
 use Rattle.std.specs.List.{AllByRecursion, filter, remove}
 use Rattle.std.proofs.lemmas.Bool.Decides.{nat_tests}
@@ -7,15 +7,14 @@ use Rattle.std.proofs.lemmas.List.Sums.{sum_by-cons, sum_by-remove}
 use Rattle.std.proofs.lemmas.List.Sorted.{IsPermutation-refl, IsPermutation-remove, IsPermutation-to_front, IsPermutation-trans, IsPermutation-sym, IsPermutation-cons, IsPermutation-middle, IsPermutation-map, sum_by-IsPermutation}
 use Rattle.plan_type.specs.declared.offer.Offer.{Offer}
 use Rattle.plan_type.specs.declared.offer.Fees.{Fees}
-use Rattle.plan_type.specs.declared.plan.Entry.{Entry}
 use Rattle.plan_type.specs.Plan.{named, HoldsNone}
 use Rattle.plan_type.specs.Prices.{listed_cost}
 use Rattle.plan_type.specs.Choices.{Choice, local, all_free}
-use Rattle.plan_type.specs.Offers.{no_offer, offer_at, fees_at, offer_free, offer_held, offer_last, offer_other, offer_saving, most_saved, offers_free, offers_held, offers_local}
-use Rattle.plan_type.proofs.OfferLemmas.{sum_mapped, local_offers, free_all, saving_in, part, any_default}
+use Rattle.plan_type.specs.Offers.{no_offer, offer_at, fees_at, offer_last, offer_other, offer_saving, most_saved, offers_free, offers_held}
+use Rattle.plan_type.proofs.OfferLemmas.{sum_mapped, local_offers, free_all, any_default}
 use Rattle.plan_type.proofs.Orders.{local_lower}
 use Rattle.plan_optimum.specs.Chosen.{Pick, pick_of, free_pick, other_pick, last_pick, flagged, cost_by, return_by, IsChosen}
-use Rattle.plan_optimum.proofs.Grouped.{spent, HoldsAll, front_free, one_free, last_holds, last_free, spread}
+use Rattle.plan_optimum.proofs.Grouped.{spent, front_free, one_free, last_holds, last_free, spread}
 
 times : (n r : ℕ) → (suc (suc n) - 1) * r ≡ r + (suc n - 1) * r
 times n r = let a : suc (suc n) - 1 ≡ suc n = omega arith in let b : suc n - 1 ≡ n = omega arith in rw (a, b) (omega arith)

@@ -1,7 +1,7 @@
 -- What stands in the table, and what its entries give.
-use Rattle.std.proofs.Common.{◌≡◌, ◌∙◌, ℕ, zero, suc, ◌+◌, ◌-◌, ◌*◌, ◌^◌, ◌<◌, ◌≤◌, List, [], ◌∷◌, ◌++◌, map, take, length, Bool, true, false, append_assoc, refl, sym, ap, subst, arith, mul-le-mul_right, inl, inr, ◌⊎◌, Option, Some, None}
+use Rattle.std.proofs.Common.{◌≡◌, ◌∙◌, ℕ, zero, suc, ◌+◌, ◌-◌, ◌*◌, ◌^◌, ◌<◌, ◌≤◌, List, [], ◌∷◌, ◌++◌, map, take, length, Bool, true, false, append_assoc, refl, sym, ap, subst, arith, inl, inr, ◌⊎◌, Some}
 use Rattle.std.specs.Prelude.{if◌then◌else◌, sum_by}
-use Rattle.std.specs.List.{AllByRecursion, slice_get, flat_map, range_with_len}
+use Rattle.std.specs.List.{slice_get, flat_map, range_with_len}
 use Rattle.plan_type.specs.declared.budget.Budget.{Budget}
 use Rattle.plan_type.specs.declared.costs.Costs.{Costs}
 use Rattle.plan_type.specs.declared.offer.Offer.{Offer}
@@ -9,19 +9,18 @@ use Rattle.plan_type.specs.declared.offer.Fees.{Fees}
 use Rattle.plan_type.specs.Budget.{IsBudget}
 use Rattle.plan_type.specs.Costs.{IsSound, parent_of, tree_of, children_of, steps_of, blocks_of}
 use Rattle.plan_type.specs.Prices.{prices_of}
-use Rattle.plan_type.specs.Offers.{offer_at, fees_at, offer_free, offer_held, offers_local}
+use Rattle.plan_type.specs.Offers.{offer_at, offer_free, offer_held, offers_local}
 use Rattle.plan_type.proofs.OfferLemmas.{local_offers}
-use Rattle.plan_type.proofs.Sound.{steps_small, parent_below}
 use Rattle.plan_type.proofs.CostFits.{product}
 use Rattle.plan_optimum.specs.declared.planner.Planner.{Planner}
 use Rattle.plan_optimum.specs.declared.site.Site.{Site}
 use Rattle.plan_optimum.specs.declared.site.Way.{Way}
 use Rattle.plan_optimum.specs.declared.standing.Standing.{Standing}
-use Rattle.plan_optimum.specs.Sites.{no_way, site_in, site_at, way_at, ways_under, IsSmallWay, IsSite, AreSites}
+use Rattle.plan_optimum.specs.Sites.{site_at, AreSites}
 use Rattle.plan_optimum.specs.Entries.{value_of, column_of, row_of, row_in, row_at, number_in, entry_at, IsTable, IsReady, IsStanding, under, standing_way, value_at, choice_at, may_hold, offer_of, fees_of}
 use Rattle.plan_optimum.proofs.Deeper.{value_next}
 use Rattle.plan_optimum.proofs.Weights.{Small, small}
-use Rattle.plan_optimum.proofs.SiteLemmas.{site_of, way_here, way_small, can_blocks, free_value, held_value, one_more, small_push}
+use Rattle.plan_optimum.proofs.SiteLemmas.{site_of, way_here, way_small, can_blocks, free_value, held_value}
 
 -- ---- places in lists
 
@@ -75,16 +74,6 @@ entry_is costs p s ready stands =
     ap (λ row. number_in (slice_get row (s.level * (p.budget.most + 1) + s.used))) (ready.table s.node (omega arith) stands.node)
     ∙ ap number_in (flat_get (column_of costs p.budget s.node) (p.budget.most + 1) (column_length costs p.budget s.node) (site_at p.sites s.node).ways s.level s.used (standing_way p s) (way_here costs p s stands) (let u = stands.used in omega (arith, u))
     ∙ column_get costs p.budget s.node (standing_way p s) s.used stands.used)
-
--- an entry's place
-pub place_small : (costs : Costs) (from : ℕ) (p : Planner) (s : Standing) → IsSound costs → IsReady costs from p → IsStanding costs p s → s.level * (p.budget.most + 1) ≤ 1000000000
-place_small costs from p s sound ready stands =
-    let few = (site_of costs from s.node p ready stands.node).few in
-    let l = stands.level in let n = stands.node in let r = sound.few in let b = ready.budget.few in
-    rest s.level p.budget.most (omega (arith, few, l, n, r)) b
-  where
-    rest : (l m : ℕ) → l ≤ 1000 → m ≤ 1024 → l * (m + 1) ≤ 1000000000
-    rest l m low few = let a : l * (m + 1) ≤ 1000 * (m + 1) = mul-le-mul_right (m + 1) low in omega (arith, a, few)
 
 either : (a b : ℕ) → (a ≤ b) ⊎ (b < a)
 either zero b = inl (omega arith)

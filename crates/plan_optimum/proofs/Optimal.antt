@@ -1,6 +1,5 @@
 -- A plan that is built at number 0 is a least one.
-use Rattle.std.proofs.Common.{◌≡◌, ◌∙◌, ℕ, zero, suc, ◌+◌, ◌-◌, ◌*◌, ◌≤◌, List, [], ◌∷◌, length, Bool, true, false, refl, sym, ap, subst, arith}
-use Rattle.std.specs.Prelude.{IfOk, Result, Ok, Err}
+use Rattle.std.proofs.Common.{◌≡◌, ◌∙◌, ℕ, zero, suc, ◌+◌, ◌-◌, ◌*◌, ◌≤◌, List, [], ◌∷◌, length, refl, ap, subst, arith}
 use Rattle.std.specs.List.{AllByRecursion, slice_get}
 use Rattle.plan_type.specs.declared.budget.Budget.{Budget}
 use Rattle.plan_type.specs.declared.costs.Costs.{Costs}
@@ -8,15 +7,14 @@ use Rattle.plan_type.specs.declared.plan.Plan.{Plan}
 use Rattle.plan_type.specs.Costs.{Tree, IsSound, tree_of}
 use Rattle.plan_type.specs.Prices.{Prices, prices_of, cost_at, cost, IsLeast}
 use Rattle.plan_type.specs.Plan.{Serves}
-use Rattle.plan_type.specs.Choices.{Claims, Follows, Falls, can_hold}
+use Rattle.plan_type.specs.Choices.{Claims, Falls}
 use Rattle.plan_type.proofs.Sound.{grows}
 use Rattle.plan_type.proofs.Lower.{lower}
 use Rattle.plan_optimum.specs.declared.planner.Planner.{Planner}
 use Rattle.plan_optimum.specs.declared.standing.Standing.{Standing}
-use Rattle.plan_optimum.specs.declared.site.Way.{Way}
 use Rattle.plan_optimum.specs.Bounds.{bound}
-use Rattle.plan_optimum.specs.Sites.{no_way, way_in, site_at}
-use Rattle.plan_optimum.specs.Entries.{value_of, value_at, standing_way, IsReady, IsStanding}
+use Rattle.plan_optimum.specs.Sites.{no_way, way_in}
+use Rattle.plan_optimum.specs.Entries.{value_of, standing_way, IsReady, IsStanding}
 use Rattle.plan_optimum.specs.Built.{IsBuilt}
 
 -- the bounds to all depths are claims that follow from one another

@@ -1,5 +1,5 @@
 -- Nodes, their ways, and where their children stand.
-use Rattle.std.proofs.Common.{◌≡◌, ◌≢◌, ◌∙◌, ℕ, zero, suc, ◌+◌, ◌-◌, ◌*◌, ◌^◌, ◌<◌, ◌≤◌, List, [], ◌∷◌, ◌++◌, map, length, get_or, Bool, true, false, ◌&&◌, refl, sym, ap, subst, arith, inl, inr, ◌⊎◌, Option, Some, None}
+use Rattle.std.proofs.Common.{◌≡◌, ◌∙◌, ℕ, zero, suc, ◌+◌, ◌-◌, ◌*◌, ◌^◌, ◌<◌, ◌≤◌, List, [], ◌∷◌, ◌++◌, map, length, get_or, Bool, true, false, ◌&&◌, refl, sym, ap, subst, arith, inl, inr, ◌⊎◌, Some}
 use Rattle.std.specs.Prelude.{if◌then◌else◌, nat_le, nat_lt}
 use Rattle.std.specs.List.{AllByRecursion, slice_get}
 use Rattle.std.proofs.lemmas.Bool.Decides.{nat_tests}
@@ -8,7 +8,7 @@ use Rattle.plan_type.specs.declared.costs.Costs.{Costs}
 use Rattle.plan_type.specs.declared.row.Row.{Row}
 use Rattle.plan_type.specs.declared.offer.Fees.{Fees}
 use Rattle.plan_type.specs.Budget.{IsBudget}
-use Rattle.plan_type.specs.Costs.{IsSound, row_of, parent_in, parent_of, tree_of, children_of, steps_of, blocks_of}
+use Rattle.plan_type.specs.Costs.{IsSound, parent_in, parent_of, tree_of, children_of, steps_of, blocks_of}
 use Rattle.plan_type.specs.Prices.{prices_of}
 use Rattle.plan_type.proofs.Sound.{grows, parent_below, steps_small}
 use Rattle.plan_type.proofs.CostFits.{product}
@@ -220,13 +220,13 @@ sites_root costs budget sites site are is = record {
   each = λ u lt. elim (before_or_at u 0 (omega (arith, lt))) [
     | inl never ↦ absurd (omega (arith, never))
     | inr e ↦ subst (λ u. IsSite costs budget sites u (site_at sites u)) (sym e) (subst (IsSite costs budget sites 0) (sym (ap (λ l. site_at l 0) are ∙ is)) (record {
-        children = refl;
-        blocks = refl;
-        root = λ _. refl;
-        under = λ q is. absurd (no_parent costs q is);
-        small = (record { back = omega arith; again = omega arith }, tt);
-        few = omega arith;
-      }))
+      children = refl;
+      blocks = refl;
+      root = λ _. refl;
+      under = λ q is. absurd (no_parent costs q is);
+      small = (record { back = omega arith; again = omega arith }, tt);
+      few = omega arith;
+    }))
   ];
 }
 

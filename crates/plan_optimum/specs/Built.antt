@@ -1,5 +1,5 @@
 -- A plan that is built for a node, and its entries.
-use Rattle.std.specs.Prelude.{ℕ, ◌≡◌, ◌≤◌, ◌+◌, List, length, map, true, Some}
+use Rattle.std.specs.Prelude.{◌≡◌, ◌≤◌, true, Some}
 use Rattle.plan_type.specs.declared.costs.Costs.{Costs}
 use Rattle.plan_type.specs.declared.plan.Plan.{Plan}
 use Rattle.plan_type.specs.declared.plan.Entry.{Entry}

@@ -1,5 +1,5 @@
 -- The order of a node's children and for which of them it is held, as it is chosen by what they cost.
-use Rattle.std.specs.Prelude.{ℕ, ◌≡◌, List, [], ◌∷◌, Bool, true, false, not, nat_lt, if◌then◌else◌, IsPermutation}
+use Rattle.std.specs.Prelude.{ℕ, ◌≡◌, List, Bool, true, false, not, nat_lt, if◌then◌else◌, IsPermutation}
 use Rattle.std.specs.List.{AllByRecursion}
 use Rattle.plan_type.specs.declared.offer.Offer.{Offer}
 use Rattle.plan_type.specs.declared.offer.Fees.{Fees}

@@ -1,12 +1,12 @@
 -- The table of least costs, by node, way and used blocks.
-use Rattle.std.specs.Prelude.{ℕ, ◌≡◌, ◌≤◌, ◌<◌, ◌+◌, ◌-◌, ◌*◌, List, [], ◌∷◌, length, map, Option, Some, None, Bool, if◌then◌else◌}
+use Rattle.std.specs.Prelude.{ℕ, ◌≡◌, ◌≤◌, ◌<◌, ◌+◌, ◌-◌, ◌*◌, List, [], length, map, Option, Some, None, Bool, if◌then◌else◌}
 use Rattle.std.specs.List.{slice_get, flat_map, range_with_len}
 use Rattle.plan_type.specs.declared.budget.Budget.{Budget}
 use Rattle.plan_type.specs.declared.costs.Costs.{Costs}
 use Rattle.plan_type.specs.declared.offer.Offer.{Offer}
 use Rattle.plan_type.specs.declared.offer.Fees.{Fees}
 use Rattle.plan_type.specs.Budget.{IsBudget}
-use Rattle.plan_type.specs.Costs.{tree_of, blocks_of, parent_of}
+use Rattle.plan_type.specs.Costs.{tree_of}
 use Rattle.plan_type.specs.Prices.{prices_of}
 use Rattle.plan_type.specs.Choices.{Choice, can_hold}
 use Rattle.plan_type.specs.Offers.{offer_at, fees_at}

@@ -1,12 +1,11 @@
 -- What is known of each node before any cost is computed, and where a subtree is computed.
-use Rattle.std.specs.Prelude.{ℕ, ◌≡◌, ◌≤◌, ◌<◌, ◌+◌, ◌*◌, List, [], ◌∷◌, ◌++◌, length, map, nat_le, Option, Some, None, Bool, if◌then◌else◌}
+use Rattle.std.specs.Prelude.{ℕ, ◌≡◌, ◌≤◌, ◌<◌, ◌+◌, ◌*◌, List, [], ◌∷◌, ◌++◌, length, map, nat_le, Option, Some, None, if◌then◌else◌}
 use Rattle.std.specs.List.{AllByRecursion, slice_get}
 use Rattle.plan_type.specs.declared.budget.Budget.{Budget}
 use Rattle.plan_type.specs.declared.costs.Costs.{Costs}
 use Rattle.plan_type.specs.Costs.{parent_of, children_of, steps_of, blocks_of}
 use Rattle.plan_optimum.specs.declared.site.Site.{Site}
 use Rattle.plan_optimum.specs.declared.site.Way.{Way}
-use Rattle.plan_optimum.specs.declared.standing.Standing.{Standing}
 
 -- ---- ways
 

@@ -96,12 +96,7 @@ impl Planner {
         requires stands { IsStanding costs.now self.now at.now }
         ensures { result ≡ may_hold costs.now self.now at.now }
     {
-        at.node.0 > 0
-            && fits(
-                at.used,
-                self.blocks(at.node),
-                self.budget.most,
-            )
+        at.node.0 > 0 && fits(at.used, self.blocks(at.node), self.budget.most)
     }
 
     /// Where a child stands, for whether the node is held for it.

@@ -64,7 +64,10 @@ fn run(
     assert!(rt; costs.sound(), "{name}");
     assert!(rt; 256 <= budget.block && budget.block <= 1_048_576, "{name}");
     assert!(rt; budget.most <= 1024, "{name}");
-    assert!(rt; budget.save <= 1_000_000 && budget.load <= 1_000_000, "{name}");
+    assert!(rt;
+        budget.save <= 1_000_000 && budget.load <= 1_000_000,
+        "{name}"
+    );
     assert!(rt; text.len() <= 1000, "{name}");
     match check(alloc, costs, budget, text.as_bytes()) {
         Ok(verdict) => {
@@ -272,7 +275,15 @@ fn an_unreached_node_stands_in_no_plan(rt: HostRuntime) -> Result<(), Fail> {
     };
     let text = "chex-plan 1\n1 1 free\n2 2 free\n";
     let expected = Err(WrongChild { node: NodeId(2) });
-    run(&rt, alloc, &cut, &room(1), "an unreached node", text, expected)
+    run(
+        &rt,
+        alloc,
+        &cut,
+        &room(1),
+        "an unreached node",
+        text,
+        expected,
+    )
 }
 
 /// Texts over a fan of three with room for one block, at 4 steps for saving a block and 3 for

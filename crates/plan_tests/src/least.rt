@@ -72,7 +72,10 @@ fn check_row(
     assert!(rt; costs.sound(), "{name}");
     assert!(rt; 256 <= budget.block && budget.block <= 1_048_576, "{name}");
     assert!(rt; budget.most <= 1024, "{name}");
-    assert!(rt; budget.save <= 1_000_000 && budget.load <= 1_000_000, "{name}");
+    assert!(rt;
+        budget.save <= 1_000_000 && budget.load <= 1_000_000,
+        "{name}"
+    );
     let plan = least(alloc, &costs, &budget)?;
     assert_eq!(rt; plan.cost(&costs, &budget), expected.cost, "{name}");
     assert_eq!(rt; plan.peak(&costs, &budget), expected.peak, "{name}");
@@ -291,7 +294,12 @@ fn levels() -> [Row; 5] {
 #[test]
 fn plans_of_wrong_planners_are_dearer_or_do_not_fit(rt: HostRuntime) -> Result<(), Fail> {
     let alloc = rt.alloc();
-    let budget = budget_of((4096, 1, 0, 0));
+    let budget = Budget {
+        block: 4096,
+        most: 1,
+        save: 0,
+        load: 0,
+    };
     for (name, deep, text, cost) in WRONG {
         let costs = Costs {
             rows: if deep {
@@ -379,7 +387,12 @@ fn comb(alloc: Global) -> Result<Costs, NoMemory> {
 fn a_long_path_with_a_second_child_at_each_node(rt: HostRuntime) -> Result<(), Fail> {
     let alloc = rt.alloc();
     let costs = comb(alloc)?;
-    let budget = budget_of((4096, 64, 0, 0));
+    let budget = Budget {
+        block: 4096,
+        most: 64,
+        save: 0,
+        load: 0,
+    };
     assert!(rt; costs.sound());
     let plan = least(alloc, &costs, &budget)?;
     assert_eq!(rt; plan.cost(&costs, &budget), 127);

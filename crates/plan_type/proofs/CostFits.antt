@@ -1,5 +1,5 @@
 -- The cost of a plan of the class that fits is small; and one step of the sum over the entries.
-use Rattle.std.proofs.Common.{◌≡◌, ◌∙◌, ℕ, zero, suc, ◌+◌, ◌-◌, ◌*◌, ◌^◌, ◌<◌, ◌≤◌, List, [], ◌∷◌, length, drop, get_or, Bool, true, false, not, ◌&&◌, refl, sym, ap, subst, arith, mul-le-mul_right}
+use Rattle.std.proofs.Common.{◌≡◌, ◌∙◌, ℕ, zero, suc, ◌+◌, ◌*◌, ◌^◌, ◌<◌, ◌≤◌, List, [], ◌∷◌, length, drop, get_or, Bool, true, false, not, ◌&&◌, refl, sym, ap, arith, mul-le-mul_right}
 use Rattle.std.specs.Prelude.{if◌then◌else◌, sum_by, nat_eq}
 use Rattle.std.specs.List.{AllByRecursion}
 use Rattle.std.proofs.lemmas.List.{drop_more, length-drop}
@@ -12,12 +12,12 @@ use Rattle.plan_type.specs.declared.plan.Plan.{Plan, every-Plan}
 use Rattle.plan_type.specs.declared.plan.Entry.{Entry}
 use Rattle.plan_type.specs.Budget.{IsBudget}
 use Rattle.plan_type.specs.Costs.{Tree, IsSound, tree_of, children_of, steps_of, blocks_of}
-use Rattle.plan_type.specs.Plan.{named, entries_of, is_none, Orders, LayerOrders, IsPlanOf, greatest, peak_at}
+use Rattle.plan_type.specs.Plan.{named, entries_of, is_none, Orders, LayerOrders, IsPlanOf, peak_at}
 use Rattle.plan_type.specs.Prices.{Prices, prices_of, listed_cost, cost_at}
-use Rattle.plan_type.proofs.PlanParts.{induct, under_parts, rest_cost, cost_parts, rest_peak, peak_parts}
+use Rattle.plan_type.proofs.PlanParts.{induct, under_parts, rest_cost, cost_parts, peak_parts}
 use Rattle.plan_type.proofs.Sound.{grows, steps_small}
 use Rattle.plan_type.proofs.Sizes.{size, size_fits}
-use Rattle.plan_type.proofs.Listed.{Roomy, rooms, Room, room_at, empty_by_length}
+use Rattle.plan_type.proofs.Listed.{Roomy, rooms, room_at, empty_by_length}
 use Rattle.plan_type.proofs.Entries.{EntryOf, entry_at}
 
 pub product : (rate blocks : ℕ) → rate ≤ 1000000 → blocks ≤ 1024 → rate * blocks ≤ 1024000000

@@ -1,5 +1,5 @@
 -- No plan of the class that fits costs less than what is claimed of its node, where each claim follows from others.
-use Rattle.std.proofs.Common.{◌≡◌, ◌∙◌, ℕ, zero, suc, ◌+◌, ◌*◌, ◌<◌, ◌≤◌, List, [], ◌∷◌, Bool, true, false, refl, ap, sym, subst, arith, inl, inr, ◌⊎◌, eq-zero-or-pos}
+use Rattle.std.proofs.Common.{◌≡◌, ℕ, ◌+◌, ◌*◌, ◌<◌, ◌≤◌, List, [], ◌∷◌, Bool, true, false, refl, ap, arith, inl, inr, ◌⊎◌, eq-zero-or-pos}
 use Rattle.std.specs.Prelude.{if◌then◌else◌}
 use Rattle.std.specs.List.{AllByRecursion}
 use Rattle.std.proofs.lemmas.List.Sorted.{All-permutation}
@@ -11,7 +11,7 @@ use Rattle.plan_type.specs.Costs.{Tree}
 use Rattle.plan_type.proofs.Sound.{Grows}
 use Rattle.plan_type.specs.Plan.{named, entries_of, Orders, LayerOrders, IsPlanOf, HoldsNone, greatest, peak_at}
 use Rattle.plan_type.specs.Prices.{Prices, cost_at}
-use Rattle.plan_type.specs.Choices.{Choice, can_hold, local, choice_by, Claims, Follows, Falls}
+use Rattle.plan_type.specs.Choices.{can_hold, choice_by, Claims, Falls}
 use Rattle.plan_type.proofs.PlanParts.{rest_cost, cost_parts, rest_peak, peak_parts, induct, under_parts, peak_above}
 use Rattle.plan_type.proofs.Orders.{Above, local_lower}
 

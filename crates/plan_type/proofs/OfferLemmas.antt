@@ -1,12 +1,12 @@
 -- Sums and savings over offers, and that the local value over them is the one over the children.
-use Rattle.std.proofs.Common.{◌≡◌, ◌∙◌, ℕ, zero, suc, ◌+◌, ◌-◌, ◌*◌, ◌<◌, ◌≤◌, List, [], ◌∷◌, ◌++◌, map, length, min, max, take, get_or, refl, sym, ap, arith, Bool, true, false, sum_by}
+use Rattle.std.proofs.Common.{◌≡◌, ◌∙◌, ℕ, zero, suc, ◌+◌, ◌-◌, ◌*◌, ◌<◌, ◌≤◌, List, [], ◌∷◌, ◌++◌, map, length, max, take, get_or, refl, sym, ap, arith, Bool, true, false, sum_by}
 use Rattle.std.specs.List.{AllByRecursion}
 use Rattle.std.proofs.lemmas.List.{take_more}
 use Rattle.std.proofs.lemmas.List.Sums.{sum_by-cons, sum_by_more_le_part}
 use Rattle.plan_type.specs.declared.offer.Offer.{Offer}
 use Rattle.plan_type.specs.declared.offer.Fees.{Fees}
-use Rattle.plan_type.specs.Offers.{no_offer, offer_at, fees_at, offer_free, offer_held, offer_last, offer_other, offer_saving, most_saved, offers_free, offers_held, offers_local}
-use Rattle.plan_type.specs.Choices.{Choice, local, last, other, with_last, least_by, all_free}
+use Rattle.plan_type.specs.Offers.{no_offer, offer_at, fees_at, offer_free, offer_other, offer_saving, most_saved, offers_free, offers_local}
+use Rattle.plan_type.specs.Choices.{Choice, local, last, other, least_by, all_free}
 
 pub other_room : (fees : Fees) (os : List Offer) (i : ℕ) (d : Offer) → i < length os
     → sum_by (offer_other fees) (take i os) + offer_other fees (get_or os i d) ≤ sum_by (offer_free fees) os

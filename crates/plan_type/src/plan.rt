@@ -91,14 +91,7 @@ impl Plan {
 
     /// The cost of the plan of the node `of`, where making that node again costs `back` steps and
     /// `again` for what is restored.
-    fn cost_from(
-        &self,
-        costs: &Costs,
-        budget: &Budget,
-        of: NodeId,
-        back: u64,
-        again: u64,
-    ) -> u64
+    fn cost_from(&self, costs: &Costs, budget: &Budget, of: NodeId, back: u64, again: u64) -> u64
         requires sound { IsSound costs.now }
         requires class { IsPlanOf (children_of costs.now) of self.now }
         requires budget { IsBudget budget.now }

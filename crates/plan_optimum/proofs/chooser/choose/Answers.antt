@@ -1,7 +1,7 @@
-use Rattle.std.proofs.Common.{rules, ◌≡◌, ◌∙◌, ◌∷◌, ◌++◌, [], ap, sym, subst, map, false, true, length, ◌<◌, remove, get_or}
-use Rattle.std.specs.Prelude.{nat_lt, IfOk, Result, Ok, Err}
+use Rattle.std.proofs.Common.{rules, ◌≡◌, ◌∙◌, ◌∷◌, ◌++◌, [], ap, sym, subst, map, false, true, length, ◌<◌, get_or}
+use Rattle.std.specs.Prelude.{nat_lt}
 use Rattle.plan_type.specs.Offers.{no_offer, offers_free, offers_held, offer_saving, most_saved}
-use Rattle.plan_optimum.specs.Chosen.{free_pick, other_pick, pick_of}
+use Rattle.plan_optimum.specs.Chosen.{free_pick, other_pick}
 use Rattle.plan_optimum.proofs.Choosing.{chosen_free, chosen_held, if_ok}
 use Rattle.plan_optimum.proofs.chooser.choose.Goals as goal
 

@@ -1,4 +1,4 @@
-use Rattle.std.proofs.Common.{rules, arith, ◌+◌, ◌∙◌, sym, subst, ap}
+use Rattle.std.proofs.Common.{arith, ◌+◌, ◌∙◌, sym, subst, ap}
 use Rattle.plan_type.specs.Offers.{no_offer, offer_saving}
 use Rattle.plan_type.proofs.OfferLemmas.{any_default, Found, found_here, found_before}
 use Rattle.plan_type.proofs.offer.place_of_last.Goals.{then-saving-most, else-saving-most}

@@ -1,9 +1,9 @@
-use Rattle.std.proofs.Common.{rules, arith, ◌≡◌, ◌<◌, ◌+◌, ◌-◌, ◌∙◌, [], ◌∷◌, ap, sym, subst, refl, length, get_or, take, map}
+use Rattle.std.proofs.Common.{arith, ◌≡◌, ◌<◌, ◌∙◌, ap, subst, refl, length, get_or, map}
 use Rattle.plan_type.specs.Costs.{children_of}
 use Rattle.plan_optimum.specs.Built.{IsBuilt, bare}
-use Rattle.plan_optimum.specs.Entries.{choice_at, may_hold, under}
+use Rattle.plan_optimum.specs.Entries.{choice_at, may_hold}
 use Rattle.plan_optimum.proofs.Building.{pick_child, pick_may, picks_more, all_push, taken_all, built}
-use Rattle.plan_optimum.proofs.Lookups.{offered, ready_from}
+use Rattle.plan_optimum.proofs.Lookups.{offered}
 use Rattle.plan_optimum.proofs.SiteLemmas.{child_of}
 use Rattle.plan_optimum.proofs.planner.Planner.+build.Goals as goal
 

@@ -1,6 +1,5 @@
-use Rattle.std.proofs.Common.{arith, ◌<◌, ◌∙◌, sym, refl}
-use Rattle.plan_type.specs.Budget.{IsBudget}
-use Rattle.plan_optimum.proofs.SiteLemmas.{site_of, way_small, can_blocks, fees_is}
+use Rattle.std.proofs.Common.{arith, ◌∙◌, sym, refl}
+use Rattle.plan_optimum.proofs.SiteLemmas.{site_of, can_blocks, fees_is}
 use Rattle.plan_optimum.proofs.planner.Planner.fees.Goals as goal
 
 pub price-requires-clause-blocks : goal.price-requires-clause-blocks

@@ -1,4 +1,4 @@
-use Rattle.std.proofs.Common.{arith, ◌≡◌, ◌<◌, ◌≤◌, ◌+◌, ◌-◌, ◌∙◌, ap, length, length-append, [], ◌∷◌}
+use Rattle.std.proofs.Common.{arith, ◌≤◌, ◌-◌, ◌∙◌, ap, length, length-append, [], ◌∷◌}
 use Rattle.plan_optimum.specs.Sites.{site_at}
 use Rattle.plan_optimum.specs.Entries.{row_of}
 use Rattle.plan_optimum.proofs.Lookups.{table_push}

@@ -1,6 +1,6 @@
-use Rattle.std.proofs.Common.{arith, ◌+◌, ◌∙◌, ◌≡◌, sym, ap, subst, true, false}
+use Rattle.std.proofs.Common.{arith, ◌+◌, ◌∙◌, ap}
 use Rattle.plan_type.proofs.Sound.{steps_small}
-use Rattle.plan_optimum.specs.Entries.{value_at, under}
+use Rattle.plan_optimum.specs.Entries.{value_at}
 use Rattle.plan_optimum.proofs.SiteLemmas.{child_of, value_small, way_small}
 use Rattle.plan_optimum.proofs.Lookups.{ready_from, offer_is, if_true, if_false}
 use Rattle.plan_optimum.proofs.planner.Planner.offer.Goals.{then-can, else-can}

@@ -1,6 +1,6 @@
-use Rattle.std.proofs.Common.{arith, ◌+◌, ◌∙◌, ◌≡◌, sym, ap, subst, true, false}
+use Rattle.std.proofs.Common.{arith, ◌+◌, ◌∙◌, sym, ap, subst, true, false}
 use Rattle.plan_optimum.specs.Sites.{site_at}
-use Rattle.plan_optimum.specs.Entries.{IsStanding, under}
+use Rattle.plan_optimum.specs.Entries.{IsStanding}
 use Rattle.plan_optimum.proofs.SiteLemmas.{site_of, can_blocks, stands_under, standing_of}
 use Rattle.plan_optimum.proofs.planner.Planner.under.Goals as goal
 

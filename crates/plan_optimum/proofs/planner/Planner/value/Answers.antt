@@ -1,5 +1,5 @@
-use Rattle.std.proofs.Common.{◌∙◌, sym}
-use Rattle.plan_optimum.proofs.Lookups.{Offered, offered}
+use Rattle.std.proofs.Common.{◌∙◌}
+use Rattle.plan_optimum.proofs.Lookups.{offered}
 use Rattle.plan_optimum.proofs.planner.Planner.value.Goals as goal
 
 pub local-requires-clause-frees : goal.local-requires-clause-frees

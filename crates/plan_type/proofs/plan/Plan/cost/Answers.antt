@@ -1,6 +1,6 @@
-use Rattle.std.proofs.Common.{arith, ap, ◌∙◌, ◌≡◌}
+use Rattle.std.proofs.Common.{ap, ◌∙◌}
 use Rattle.plan_type.specs.Costs.{tree_of}
-use Rattle.plan_type.specs.Prices.{Prices, cost_at}
+use Rattle.plan_type.specs.Prices.{cost_at}
 use Rattle.plan_type.proofs.CostFits.{cost_small}
 use Rattle.plan_type.proofs.Works.{plain}
 use Rattle.plan_type.proofs.plan.Plan.cost.Goals as goal
