@@ -3,12 +3,11 @@ use Rattle.std.proofs.Common.{◌≡◌, ℕ, suc, zero, ◌<◌, Bool, true, fa
 use Rattle.std.specs.List.{list_all}
 use Rattle.std.specs.Prelude.{if◌then◌else◌}
 use Rattle.star_value.specs.KeyOrder.{same_key}
-use Rattle.star_value.specs.declared.key.Key.{Key, fold-roll-Key, ind-Key, map-Key, roll-Key}
-use Rattle.star_value.specs.declared.key.Key.TheOpen.{Key-F}
+use Rattle.star_value.specs.declared.key.Key.{Key}
 use Rattle.star_value.specs.declared.value.Value.{Value, fold-roll-Value, out-Value, roll-Value, roll-out-Value}
 use Rattle.star_value.specs.declared.value.Value.TheOpen.{Value-F}
 use Rattle.star_value.specs.declared.value.Value.TheVariants as value
-use Rattle.star_value.specs.Keys.{value_of, value_step}
+use Rattle.star_value.specs.Keys.{value_of}
 use Rattle.star_meaning.specs.State.{Object, list, dict, dict_get, object}
 use Rattle.star_meaning.specs.Validity.{MachineState, IsMachine, is_list, is_dict, is_function, fits, fits_step, all_in_pair, all_in_object}
 use Rattle.star_builtins.specs.Weighing.{tuple_at, list_at, dict_at}
