@@ -17,7 +17,7 @@ use Rattle.star_meaning.specs.World.{Block, Frame, World, entered, start}
 use Rattle.star_meaning.specs.Expressions.{Callee, Setting, meant, target_names}
 use Rattle.star_meaning.specs.Statements.{body_of, call_to, run_function, statement_of}
 use Rattle.star_meaning.specs.Agreement.{Agree}
-use Rattle.star_meaning.specs.Cells.{Shown, ran}
+use Rattle.star_meaning.specs.Cells.{Shown, ran, ran_of, shown_setting, statements_from}
 use Rattle.star_meaning.specs.Growing.{Grown, IfWent, IsBack, reached}
 use Rattle.star_meaning.specs.Renaming.{state_as}
 use Rattle.star_meaning.specs.Validity.{MachineState, after, cell_of, ran_at, run_at, shown}
@@ -47,10 +47,12 @@ abbrev pub FunctionsStay : Type 0
 FunctionsStay = (s : Shown) (cell : CellParts) (inputs : List (List ℕ × Input)) (allowance : ℕ) → Grown cell s.objects (ran s cell inputs allowance).1.objects
 
 -- The number of calls that may still become active is 32 less the functions that are active: it is at the start of a cell,
--- and where it is so at a call it is so in the body that the call runs. Where 32 are active, a call fails with TooManyCalls;
+-- which runs with 32, and where it is so at a call it is so in the body that the call runs. Where 32 are active, a call fails with TooManyCalls;
 -- where fewer are, it runs the function.
 pub record CallsAreFew : Type 0 where
   pub start_fits : (s : State CellParts) (left : ℕ) → length (start s left).frame.active + 32 ≡ 32
+  pub cell_runs : (s : Shown) (cell : CellParts) (inputs : List (List ℕ × Input)) (allowance : ℕ)
+      → ran s cell inputs allowance ≡ ran_of allowance (statements_from (shown_setting cell inputs) (call_to (shown_setting cell inputs) 32) 0 cell.«module».statements (start s (allowance - 1)))
   pub body_fits : (id n : ℕ) (block : Block) (f : Frame) → length f.active + suc n ≡ 32 → length (entered id block f).active + n ≡ 32
   pub last_fails : (setting : Setting CellParts) (n id : ℕ) (vs : List Value) (named : ByName) (w : World CellParts) → length w.frame.active + n ≡ 32 → length w.frame.active ≡ 32
       → call_to setting n id vs named w ≡ Failed TooManyCalls w
