@@ -11,6 +11,8 @@ struct Noting {
 }
 
 impl Library for Noting {
+    ghost use Rattle.std.specs.Prelude.{None};
+
     ghost files = { λ l. None };
 
     ghost faults = { λ l. 0 };
