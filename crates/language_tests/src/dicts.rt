@@ -39,8 +39,8 @@ fn a_removed_key_that_comes_again_goes_last(rt: HostRuntime) -> Result<(), Fail>
     let alloc = rt.alloc();
     let mut machine = entered(alloc)?;
     let id = dict(&rt, &mut machine)?;
-    for key in 0..300 {
-        put(&rt, &mut machine, id, key, key)?;
+    for key in 0..300u32 {
+        put(&rt, &mut machine, id, i128::from(key), i128::from(key))?;
     }
     take(&rt, alloc, &mut machine, id, 0, "Some(Int(0))")?;
     put(&rt, &mut machine, id, 0, 7)?;
@@ -137,7 +137,6 @@ fn keys_of_each_kind_stand_apart(rt: HostRuntime) -> Result<(), Fail> {
 }
 
 /// `{1: 10, 2: 20, 1: 30}`, which is `{1: 30, 2: 20}`.
-#[tactic(auto, using(heap_store::proofs::PairLemmas::values_put, crate::proofs::Fitting::fits_int))]
 fn three_puts(alloc: Global) -> Result<Pairs, NoMemory>
     ensures { (os : List (Object ℕ)) → IfOk result (λ pairs. IsTrue (list_all (λ pair. fits os pair.1) pairs)) }
 {
@@ -183,8 +182,8 @@ fn many_keys_are_put_in_little_time(rt: HostRuntime) -> Result<(), Fail> {
     let alloc = rt.alloc();
     let mut machine = entered(alloc)?;
     let id = dict(&rt, &mut machine)?;
-    for key in 0..800_000i128 {
-        put(&rt, &mut machine, id, key, key)?;
+    for key in 0..800_000u32 {
+        put(&rt, &mut machine, id, i128::from(key), i128::from(key))?;
     }
     has_pairs(&rt, &machine, id, 800_000);
     pair_shows(&rt, alloc, &machine, id, 799_999, "Int(799999) Int(799999)")?;
