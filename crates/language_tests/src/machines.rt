@@ -331,7 +331,7 @@ fn extend(
     expect_list(rt, machine, id);
     let mut more = Items::new(alloc);
     more.push(Value::Int(number))?;
-    more.push(Value::Int(-number))?;
+    more.push(Value::Int(0))?;
     machine.list_extend(id, more)
 }
 
@@ -348,7 +348,7 @@ fn items_are_moved_to_the_end(rt: HostRuntime) -> Result<(), Fail> {
         alloc,
         &machine,
         id,
-        "[Int(5), Int(-5), Int(7), Int(-7)]",
+        "[Int(5), Int(0), Int(7), Int(0)]",
     )?;
     list_shows(&rt, alloc, &machine, other, "[]")?;
     Ok(())
