@@ -10,7 +10,7 @@ use Rattle.star_meaning.specs.Validity.{is_list, fits, fits_step, is_proper, pro
 use Rattle.star_meaning.proofs.Equations.{depth_list}
 use Rattle.heap_store.specs.Objects.{kind_of}
 use Rattle.heap_store.specs.declared.kind.Kind.TheVariants as kind
-use Rattle.language_tests.proofs.Fitting as held
+use Rattle.machine_tests.proofs.Fitting as held
 
 pub kind_list : (o : Option (Object ℕ)) → option_map kind_of o ≡ Some kind.List → IsTrue (is_list o)
 kind_list = held.kind_list

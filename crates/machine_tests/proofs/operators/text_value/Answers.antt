@@ -1,5 +1,5 @@
 use Rattle.star_builtins.proofs.FitLemmas.{fits_text}
-use Rattle.language_tests.proofs.operators.text_value.Goals as goal
+use Rattle.machine_tests.proofs.operators.text_value.Goals as goal
 
 pub returns : goal.returns
 returns c m = fits_text m c.in_ok-text.text c.as_str-characters.ensures.scalars

@@ -1,8 +1,8 @@
 use Rattle.std.proofs.Common.{refl}
 use Rattle.star_meaning.specs.Validity.{fits}
 use Rattle.heap_store.proofs.PairLemmas.{values_put}
-use Rattle.language_tests.proofs.Fitting.{fits_int}
-use Rattle.language_tests.proofs.dicts.three_puts.Goals as goal
+use Rattle.machine_tests.proofs.Fitting.{fits_int}
+use Rattle.machine_tests.proofs.dicts.three_puts.Goals as goal
 
 pub returns : goal.returns
 returns c os =
