@@ -343,13 +343,7 @@ fn items_are_moved_to_the_end(rt: HostRuntime) -> Result<(), Fail> {
     let id = list(&rt, alloc, &mut machine)?;
     extend(&rt, alloc, &mut machine, id, 5)?;
     extend(&rt, alloc, &mut machine, id, 7)?;
-    list_shows(
-        &rt,
-        alloc,
-        &machine,
-        id,
-        "[Int(5), Int(0), Int(7), Int(0)]",
-    )?;
+    list_shows(&rt, alloc, &machine, id, "[Int(5), Int(0), Int(7), Int(0)]")?;
     list_shows(&rt, alloc, &machine, other, "[]")?;
     Ok(())
 }
