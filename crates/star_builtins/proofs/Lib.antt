@@ -20,3 +20,7 @@ mod Charged
 mod Outs
 mod Weighed
 mod Ordered
+mod CallLemmas
+mod WalkLemmas
+mod TruthLemmas
+pub mod ChangeLemmas

@@ -4,10 +4,13 @@
 #![tactic(auto)]
 
 mod adding;
+mod arguments;
 mod arithmetic;
 mod bounds;
+mod call;
 mod charges;
 mod comparing;
+mod dicts;
 mod formatting;
 mod indexing;
 mod integers;
@@ -24,9 +27,12 @@ mod showing;
 mod signs;
 mod slicing;
 mod texts;
+mod truths;
+mod walks;
 mod weighing;
 
 pub use bounds::Bounds;
+pub use call::{Call, NamedValues};
 pub use comparing::compare;
 pub use indexing::index;
 pub use operators::binary;
