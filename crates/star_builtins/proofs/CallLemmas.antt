@@ -1,6 +1,6 @@
 -- The arguments of a call.
 use Rattle.std.proofs.Common.{◌≡◌, ℕ, Bool, true, List, [], ◌∷◌, ◌++◌, ◌<◌, ◌≤◌, length, refl, sym, ap, ◌∙◌, subst, arith, IsTrue, Option, Some, None}
-use Rattle.std.specs.Prelude.{◌&&◌}
+use Rattle.std.specs.Prelude.{◌&&◌, bytes_eq, false}
 use Rattle.std.specs.List.{list_all}
 use Rattle.std.proofs.lemmas.List.Folds.{list_all-append}
 use Rattle.heap_store.proofs.Tested.{and_left, and_right}
@@ -104,3 +104,28 @@ front_fits m values front v is fit = record {
 
 pub ruleset unnamed = (unnamed_given, unnamed_refused)
 pub ruleset arguments = (none_given, none_refused, one_given, one_refused, optional_none, optional_given, optional_refused, one_of_two, two_of_two, two_given, two_refused, last_fits, front_fits)
+
+-- ---- by name
+
+pub named_none : (name : List ℕ) (named : spec.ByName) → named ≡ [] → spec.only_named name named ≡ Some None
+named_none name [] h = refl
+named_none name (entry ∷ more) h = absurd (cc)
+
+pub named_one : (name : List ℕ) (named front : spec.ByName) (entry : List ℕ × Value) → named ≡ front ++ entry ∷ [] → front ≡ [] → bytes_eq entry.0 name ≡ true → spec.only_named name named ≡ Some (Some entry.1)
+named_one name named front entry is none same =
+    let one : named ≡ entry ∷ [] = is ∙ ap (λ f. f ++ entry ∷ []) none in
+    rw one (rw same refl)
+
+other_one : (name : List ℕ) (entry : List ℕ × Value) (b : Bool) → bytes_eq entry.0 name ≡ b → (bytes_eq entry.0 name ≡ true → ⊥) → spec.only_named name (entry ∷ []) ≡ None
+other_one name entry true is h = absurd (h is)
+other_one name entry false is h = rw is refl
+
+other_at : (name : List ℕ) (front : spec.ByName) (entry : List ℕ × Value) → (front ≡ [] → bytes_eq entry.0 name ≡ true → ⊥) → spec.only_named name (front ++ entry ∷ []) ≡ None
+other_at name [] entry h = other_one name entry (bytes_eq entry.0 name) refl (h refl)
+other_at name (x ∷ []) entry h = refl
+other_at name (x ∷ y ∷ front) entry h = refl
+
+pub named_other : (name : List ℕ) (named front : spec.ByName) (entry : List ℕ × Value) → named ≡ front ++ entry ∷ [] → (front ≡ [] → bytes_eq entry.0 name ≡ true → ⊥) → spec.only_named name named ≡ None
+named_other name named front entry is h = ap (spec.only_named name) is ∙ other_at name front entry h
+
+pub ruleset named = (named_none, named_one, named_other)

@@ -24,3 +24,6 @@ mod CallLemmas
 mod WalkLemmas
 mod TruthLemmas
 pub mod ChangeLemmas
+mod RowLemmas
+mod DepthLemmas
+mod TupleLemmas

@@ -8,3 +8,4 @@ pub mod Weighing
 pub mod Calling
 pub mod Walks
 pub mod Changes
+pub mod Rows

@@ -11,7 +11,7 @@ ghost use Rattle.star_meaning.specs.Values as values;
 ghost use Rattle.star_value.specs.declared.failure.Failure.TheVariants as failure;
 ghost use Rattle.star_value.specs.declared.value.Value.{Value};
 
-use crate::call::Call;
+use crate::call::{Call, NamedValues};
 use crate::parts::{int_of, text_of};
 use chex_base::Text;
 use star_value::{Failure, Value, Values};
@@ -102,6 +102,21 @@ pub fn two(mut values: Values) -> Result<(Value, Value), Failure>
     }
 }
 
+/// The argument of this name, if it is given. Another name, or more than one argument by name, is
+/// WrongArguments.
+#[tactic(auto, using(crate::proofs::CallLemmas::named))]
+pub fn only_named(name: &Text, mut named: NamedValues) -> Result<Option<Value>, Failure>
+    ensures { AnswersOr failure.WrongArguments (spec.only_named name.now named) result }
+{
+    let Some((given, value)) = named.pop() else {
+        return Ok(None);
+    };
+    if named.is_empty() && given == *name {
+        return Ok(Some(value));
+    }
+    Err(Failure::WrongArguments)
+}
+
 /// The integer that an argument is; a bool is none.
 pub fn as_int(value: &Value) -> Result<i128, Failure>
     ensures { AnswersOr failure.WrongType (values.int_in value.now) result }
@@ -119,5 +134,16 @@ pub fn as_text(value: &Value) -> Result<&Text, Failure>
     match text_of(value) {
         Some(text) => Ok(text),
         None => Err(Failure::WrongType),
+    }
+}
+
+/// The text that an argument is, taken out of it.
+#[tactic(auto, using(crate::proofs::Outs::outs))]
+pub fn into_text(value: Value) -> Result<Text, Failure>
+    ensures { AnswersOr failure.WrongType (values.text_in value) result }
+{
+    match value {
+        Value::Text(text) => Ok(text),
+        _ => Err(Failure::WrongType),
     }
 }

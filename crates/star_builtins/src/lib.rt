@@ -28,6 +28,7 @@ mod signs;
 mod slicing;
 mod texts;
 mod truths;
+mod tuples;
 mod walks;
 mod weighing;
 
