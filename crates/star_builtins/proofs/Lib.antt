@@ -27,3 +27,5 @@ pub mod ChangeLemmas
 mod RowLemmas
 mod DepthLemmas
 mod TupleLemmas
+pub mod ChangedLemmas
+pub mod KeyLemmas

@@ -9,3 +9,4 @@ pub mod Calling
 pub mod Walks
 pub mod Changes
 pub mod Rows
+pub mod Storing
