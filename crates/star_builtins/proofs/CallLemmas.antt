@@ -103,6 +103,7 @@ front_fits m values front v is fit = record {
 }
 
 pub ruleset unnamed = (unnamed_given, unnamed_refused)
+
 pub ruleset arguments = (none_given, none_refused, one_given, one_refused, optional_none, optional_given, optional_refused, one_of_two, two_of_two, two_given, two_refused, last_fits, front_fits)
 
 -- ---- by name

@@ -19,7 +19,6 @@ ranged (Some start) (Some stop) None = fail failure.WrongType
 ranged (Some start) None step = fail failure.WrongType
 ranged None stop step = fail failure.WrongType
 
-
 -- what a value gives, once it is charged
 abbrev pub charged_given : {C : Type 0} → Value → Action C (List Value)
 charged_given v = items_of v >>= (λ items. charge_items items >> pure items)

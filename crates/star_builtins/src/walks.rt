@@ -57,12 +57,7 @@ pub fn charge_at(
 
 /// The item that a value gives at a place. An item of a range is computed; any other is copied, so
 /// charge it first.
-pub fn item(
-    alloc: Global,
-    of: &Value,
-    place: u128,
-    machine: &Machine,
-) -> Result<Value, NoMemory>
+pub fn item(alloc: Global, of: &Value, place: u128, machine: &Machine) -> Result<Value, NoMemory>
     requires of { Fits machine.now of.now }
     requires held { IsTrue (all_in is_proper machine.now.state) }
     requires within { place < length (given machine.now.state of.now) }
