@@ -190,10 +190,10 @@ dict_function (Some (ADict pairs)) h k = absurd (cc)
 dict_function (Some (AFunction cell number defaults)) h k = absurd (cc)
 dict_function None h k = absurd (cc)
 
-alike_list : (o : Option (Object ℕ)) (items : List Value) → IsTrue (is_list o) → Alike o (AList items)
+pub alike_list : (o : Option (Object ℕ)) (items : List Value) → IsTrue (is_list o) → Alike o (AList items)
 alike_list o items is = record { list = λ h. refl; dict = λ h. absurd (other_dict o is h); function = λ h. absurd (other_function o is h) }
 
-alike_dict : (o : Option (Object ℕ)) (pairs : List (Key × Value)) → IsTrue (is_dict o) → Alike o (ADict pairs)
+pub alike_dict : (o : Option (Object ℕ)) (pairs : List (Key × Value)) → IsTrue (is_dict o) → Alike o (ADict pairs)
 alike_dict o pairs is = record { list = λ h. absurd (other_dict o h is); dict = λ h. refl; function = λ h. absurd (dict_function o is h) }
 
 alike_function : (o : Option (Object ℕ)) (cell number : ℕ) (defaults : List Value) → IsTrue (is_function o) → Alike o (AFunction cell number defaults)

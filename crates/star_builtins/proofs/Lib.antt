@@ -20,3 +20,12 @@ mod Charged
 mod Outs
 mod Weighed
 mod Ordered
+mod CallLemmas
+mod WalkLemmas
+mod TruthLemmas
+pub mod ChangeLemmas
+mod RowLemmas
+mod DepthLemmas
+mod TupleLemmas
+pub mod ChangedLemmas
+pub mod KeyLemmas

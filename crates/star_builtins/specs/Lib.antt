@@ -5,3 +5,8 @@ pub mod Shows
 pub mod Pieces
 pub mod Filled
 pub mod Weighing
+pub mod Calling
+pub mod Walks
+pub mod Changes
+pub mod Rows
+pub mod Storing

@@ -4,10 +4,14 @@
 #![tactic(auto)]
 
 mod adding;
+mod arguments;
 mod arithmetic;
 mod bounds;
+mod call;
+mod changes;
 mod charges;
 mod comparing;
+mod dicts;
 mod formatting;
 mod indexing;
 mod integers;
@@ -23,13 +27,19 @@ mod repeating;
 mod showing;
 mod signs;
 mod slicing;
+mod stores;
 mod texts;
+mod truths;
+mod tuples;
+mod walks;
 mod weighing;
 
 pub use bounds::Bounds;
+pub use call::{Call, NamedValues};
 pub use comparing::compare;
 pub use indexing::index;
 pub use operators::binary;
 pub use showing::show;
 pub use signs::unary;
 pub use slicing::slice;
+pub use stores::{augmented, extend, store, unpacked};

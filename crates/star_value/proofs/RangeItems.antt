@@ -47,7 +47,7 @@ item_by start stop (pos (suc n)) place a b h = item_up start stop place n a b h
 item_by start stop (negsuc n) place a b h = item_down start stop place n a b h
 
 -- what a range gives is an integer of 128 bits
-given_fits : (r : Range) (place : ℕ) → FitsSigned w128 r.start → FitsSigned w128 r.stop → place < range_count r → FitsSigned w128 (range_item r place)
+pub given_fits : (r : Range) (place : ℕ) → FitsSigned w128 r.start → FitsSigned w128 r.stop → place < range_count r → FitsSigned w128 (range_item r place)
 given_fits r place a b h = item_by r.start r.stop r.step place a b ((range_count_is r place).0 h)
 
 moved_up : (start : ℤ) (step : ℤ) (place : ℕ) → pos 0 <ℤ step → start +ℤ pos (place * unsigned_abs step) ≡ start +ℤ pos place *ℤ step
