@@ -2,5 +2,7 @@
 #![tactic(auto)]
 
 mod headers;
+mod summaries;
 
 pub use headers::header;
+pub use summaries::{Numbers, summary};

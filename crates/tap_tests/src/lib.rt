@@ -1,4 +1,4 @@
-//! Listeners and made versions, with texts that were worked out by hand or by another
+//! Listeners, made versions and the summary, with texts that were worked out by hand or by another
 //! program.
 //!
 //! They stand apart, since a crate that has tests is proved twice, once without them and once with
@@ -7,5 +7,7 @@
 
 #[cfg(test)]
 mod listeners;
+#[cfg(test)]
+mod summaries;
 #[cfg(test)]
 mod versions;
