@@ -25,3 +25,14 @@ pub mod RenamedStatements
 pub mod RenamedCells
 pub mod Sequences
 pub mod TargetNames
+pub mod Moved
+pub mod MovedBuiltins
+pub mod MovedComparing
+pub mod MovedExpressions
+pub mod MovedForms
+pub mod MovedLists
+pub mod MovedMethods
+pub mod MovedOperators
+pub mod MovedStatements
+pub mod MovedValues
+pub mod MovedWorld

@@ -68,3 +68,9 @@ pub fn only_named_inputs_matter()
     ensures read { laws.OnlyReadInputsMatter }
     ensures named { laws.OnlyNamedInputsMatter }
 {}
+
+/// Trial.
+#[tactic(auto, using(crate::proofs::MovedOperators::act_augmented, crate::proofs::MovedStatements::go_call_to))]
+pub fn alike_states_run_alike()
+    ensures { ℕ }
+{}
