@@ -36,3 +36,6 @@ pub mod MovedOperators
 pub mod MovedStatements
 pub mod MovedValues
 pub mod MovedWorld
+pub mod AlikeNumbers
+pub mod AlikeValues
+pub mod AlikeLaw

@@ -17,6 +17,7 @@ use Rattle.star_meaning.specs.World.{Block, Frame, World, entered, start}
 use Rattle.star_meaning.specs.Expressions.{Callee, Setting, meant, target_names}
 use Rattle.star_meaning.specs.Statements.{body_of, call_to, run_function, statement_of}
 use Rattle.star_meaning.specs.Agreement.{Agree}
+use Rattle.star_meaning.specs.Alike.{AlikeMachines, Extends, IsAlike, Pairs}
 use Rattle.star_meaning.specs.Cells.{Shown, ran, ran_of, shown_setting, statements_from}
 use Rattle.star_meaning.specs.Growing.{Grown, IfWent, IsBack, reached}
 use Rattle.star_meaning.specs.Renaming.{state_as}
@@ -128,3 +129,16 @@ HaveTheirNames (AFunction cell number defaults ∷ os) = HasItsNames cell × Hav
 abbrev pub OnlyNamedInputsMatter : Type 0
 OnlyNamedInputsMatter = (s : Shown) (cell : CellParts) (one other : List (List ℕ × Input)) (allowance : ℕ) → HasItsNames cell → HaveTheirNames s.objects
     → Agree (cell.inputs ++ names_in_functions (λ c. c.inputs) s.objects) one other → ran s cell one allowance ≡ ran s cell other allowance
+
+-- ---- alike states
+
+-- From alike states a cell ends alike, writes the same and takes equally many steps, and the states after it are alike under a
+-- list that has the pairs of the old one.
+abbrev pub AlikeStatesRunAlike : Type 0
+AlikeStatesRunAlike = (pairs : Pairs) (s t : Shown) (cell : CellParts) (inputs : List (List ℕ × Input)) (allowance : ℕ) → IsAlike pairs s t
+    → ((ran t cell inputs allowance).0 ≡ (ran s cell inputs allowance).0) × ((more : Pairs) × Extends pairs more × IsAlike more (ran s cell inputs allowance).1 (ran t cell inputs allowance).1)
+
+-- the same of machine states and nodes
+abbrev pub AlikeMachinesRunAlike : Type 0
+AlikeMachinesRunAlike = (program : Program) (m n : MachineState) (node : ℕ) (inputs : List (List ℕ × Input)) (allowance : ℕ) → AlikeMachines m n
+    → (ran_at program n node inputs allowance ≡ ran_at program m node inputs allowance) × AlikeMachines (after program m node inputs allowance) (after program n node inputs allowance)

@@ -69,8 +69,10 @@ pub fn only_named_inputs_matter()
     ensures named { laws.OnlyNamedInputsMatter }
 {}
 
-/// Trial.
-#[tactic(auto, using(crate::proofs::MovedOperators::act_augmented, crate::proofs::MovedStatements::go_call_to))]
+/// Alike states run alike: from states that differ in the numbers of their objects, and in objects
+/// that nothing reaches, alone, a cell ends alike, writes the same and takes equally many steps,
+/// and the states after it are alike again. It is so of shown states and of machine states.
 pub fn alike_states_run_alike()
-    ensures { ℕ }
+    ensures shown { laws.AlikeStatesRunAlike }
+    ensures machines { laws.AlikeMachinesRunAlike }
 {}
