@@ -1,33 +1,28 @@
 -- Alike states run alike.
-use Rattle.std.proofs.Common.{◌≡◌, ◌≤◌, ◌<◌, ◌+◌, ◌-◌, ℕ, zero, suc, List, [], ◌∷◌, map, length, Bool, true, false, IsTrue, refl, sym, ap, arith, subst, ◌∙◌}
+use Rattle.std.proofs.Common.{◌≡◌, ◌≤◌, ◌<◌, ◌+◌, ◌-◌, ℕ, zero, suc, List, [], ◌∷◌, map, length, IsTrue, refl, sym, ap, arith, subst, ◌∙◌}
 use Rattle.std.proofs.lemmas.List.{length-map}
 use Rattle.std.proofs.lemmas.Option.{none-some, slice_get_past, slice_get_within}
-use Rattle.std.specs.List.{flat_map}
 use Rattle.std.specs.Prelude.{◌==◌, ◌&&◌, ◌++◌, Option, Some, None, option_map, slice_get}
-use Rattle.chex_base.specs.declared.input.Input.{Input}
-use Rattle.star_syntax.specs.declared.cell.Program.{Program}
 use Rattle.star_syntax.specs.declared.statement.Module.{Module}
 use Rattle.star_syntax.specs.declared.statement.Statement.{Statement}
-use Rattle.star_syntax.specs.CellParts.{CellParts}
 use Rattle.star_meaning.specs.declared.flow.Flow.{Flow}
 use Rattle.star_meaning.specs.declared.ran.Ran.{Ran}
-use Rattle.star_meaning.specs.State.{Object, AList, ADict, AFunction, State, object}
+use Rattle.star_meaning.specs.State.{Object, AList, State, object}
 use Rattle.star_meaning.specs.Steps.{Outcome, Went, Failed}
 use Rattle.star_meaning.specs.World.{Fault, World, start}
 use Rattle.star_meaning.specs.Expressions.{Callee, Setting}
 use Rattle.star_meaning.specs.Statements.{call_to}
-use Rattle.star_meaning.specs.Cells.{Shown, is_def, ran, ran_of, run, shown_setting, statements_from}
-use Rattle.star_meaning.specs.Validity.{MachineState, after, cell_of, numbered_setting, ran_at, run_at}
-use Rattle.star_meaning.specs.Alike.{Alike, AlikeMachines, Extends, IsAlike, LikeFound, LikeObjects, Pairs, is_pair, like_global}
+use Rattle.star_meaning.specs.Cells.{is_def, ran, ran_of, run, shown_setting, statements_from}
+use Rattle.star_meaning.specs.Validity.{after, cell_of, numbered_setting, run_at}
+use Rattle.star_meaning.specs.Alike.{AlikeMachines, Extends, IsAlike, LikeFound, Pairs, is_pair, like_global}
 use Rattle.star_value.specs.KeyOrder.{all_hold}
-use Rattle.star_meaning.specs.Growing.{reached}
 use Rattle.star_meaning.specs.Laws.{AlikeMachinesRunAlike, AlikeStatesRunAlike}
 use Rattle.star_meaning.proofs.MovedValues.{Moving, entry_to, object_to}
-use Rattle.star_meaning.proofs.Moved.{Lands, Within, count, outcome_to, reaches}
+use Rattle.star_meaning.proofs.Moved.{Lands, Within, count, reaches}
 use Rattle.star_meaning.proofs.MovedWorld.{go_pure, go_then, of_world}
 use Rattle.star_meaning.proofs.MovedExpressions.{GoesCallee}
 use Rattle.star_meaning.proofs.MovedStatements.{Flows, flow_to, go_call_to, go_go_on, go_statement}
-use Rattle.star_meaning.proofs.AlikeNumbers.{Side, at_beyond, at_or, at_same, at_within, back, below_is, firsts, firsts_apart, fresh, fresh_low, fresh_next, has_first, has_second, in_or_second, is_below, moving_apart, pair_at, pairs_below, place, places, seconds, seconds_apart, side}
+use Rattle.star_meaning.proofs.AlikeNumbers.{Side, at_beyond, at_or, at_same, at_within, back, below_is, firsts, firsts_apart, fresh, fresh_low, fresh_next, has_first, has_second, in_or_second, is_below, moving_apart, pair_at, pairs_below, places, seconds, seconds_apart, side}
 use Rattle.star_meaning.proofs.AlikeValues.{globals_placed, globals_reach, object_placed, object_reach}
 use Rattle.star_meaning.proofs.RenamedCells.{after_by_numbers, ran_at_by_numbers}
 
@@ -266,10 +261,9 @@ alike_states pairs s t cell inputs allowance h = runs_alike (shown_setting cell 
 pub alike_machines : AlikeMachinesRunAlike
 unfolding run_at
 alike_machines program m n node inputs allowance h =
-    let result = runs_alike (numbered_setting program node inputs) (cell_of program node).«module» allowance h.state.0 m.state n.state h.state.1 in
-    (
+    let result = runs_alike (numbered_setting program node inputs) (cell_of program node).«module» allowance h.state.0 m.state n.state h.state.1 in (
       ran_at_by_numbers program n node inputs allowance ∙ result.0 ∙ sym (ran_at_by_numbers program m node inputs allowance),
       subst (λ x. AlikeMachines x (after program n node inputs allowance)) (sym (after_by_numbers program m node inputs allowance))
-      (subst (λ x. AlikeMachines (record { state = (run_at program m node inputs allowance).1; ran = m.ran ++ node ∷ [] }) x) (sym (after_by_numbers program n node inputs allowance))
-      (record { ran = ap (λ nodes. nodes ++ node ∷ []) h.ran; state = (result.1.0, result.1.2) })),
+          (subst (λ x. AlikeMachines (record { state = (run_at program m node inputs allowance).1; ran = m.ran ++ node ∷ [] }) x) (sym (after_by_numbers program n node inputs allowance))
+          (record { ran = ap (λ nodes. nodes ++ node ∷ []) h.ran; state = (result.1.0, result.1.2) })),
     )

@@ -1,11 +1,10 @@
 -- Values that correspond are those of one value over places, and the other way round.
-use Rattle.std.proofs.Common.{◌≡◌, ℕ, ℤ, List, [], ◌∷◌, map, Bool, true, false, IsTrue, refl, sym, ap, subst, ◌∙◌}
+use Rattle.std.proofs.Common.{◌≡◌, ℕ, List, [], ◌∷◌, map, Bool, IsTrue, refl, sym, ap, subst, ◌∙◌}
 use Rattle.std.proofs.lemmas.Bool.Decides.{Decides-int_eq}
 use Rattle.std.proofs.lemmas.Slice.Eq.{bytes_eq-Decides}
-use Rattle.std.specs.Bool.{beq}
 use Rattle.std.specs.Cmp.{booleans_Decides}
 use Rattle.std.specs.Ordering.{int_eq}
-use Rattle.std.specs.Prelude.{◌&&◌, Option, Some, None, option_map, bytes_eq}
+use Rattle.std.specs.Prelude.{Some, bytes_eq}
 use Rattle.star_value.specs.declared.builtin.Builtin.{Builtin}
 use Rattle.star_value.specs.declared.builtin.Builtin.TheVariants as builtin
 use Rattle.star_value.specs.declared.key.Key.{Key}
@@ -17,7 +16,7 @@ use Rattle.star_value.specs.KeyOrder.{all_hold, same_key}
 use Rattle.star_meaning.specs.State.{Object, AList, ADict, AFunction}
 use Rattle.star_meaning.specs.Values.{builtin_name, builtin_of}
 use Rattle.star_meaning.specs.Comparing.{same_builtin}
-use Rattle.star_meaning.specs.Alike.{LikeFound, LikeObjects, Pairs, is_pair, like, like_global, like_items, like_layer, like_pair, like_pairs, like_range}
+use Rattle.star_meaning.specs.Alike.{LikeObjects, Pairs, is_pair, like, like_global, like_items, like_layer, like_pair, like_pairs, like_range}
 use Rattle.star_meaning.proofs.MovedValues.{Moving, entry_to, layer, moved, object_to, pair_to, rolled}
 use Rattle.star_meaning.proofs.AlikeNumbers.{and_both, both_and, not_true}
 

@@ -14,7 +14,7 @@ use Rattle.star_value.specs.declared.value.Value.TheVariants as value
 use Rattle.star_value.specs.Weight.{weight}
 use Rattle.star_meaning.specs.State.{State, dict, dict_put, list}
 use Rattle.star_meaning.specs.Steps.{Action, ◌>>=◌, pure}
-use Rattle.star_meaning.specs.Values.{charge_items, items_of, new_dict, in_range, is_empty, is_true, is_zero, key_values, type_name}
+use Rattle.star_meaning.specs.Values.{charge_items, items_of, new_dict, in_range, is_true, key_values, type_name}
 use Rattle.star_meaning.specs.Showing.{Naming, quoted, shown}
 use Rattle.star_meaning.specs.Builtins.{ByName, absolute, all_items, are_alike, are_alike_at, as_int, as_int_or, as_text, as_value, backwards, best, best_argument, best_item, call_builtin, check, copied_pairs, count_at, dict_from, dict_of, each_before, enumerate, extreme, placed, sorted_items, int_of, int_of_text, is_before, is_before_at, last_number, len, list_of, list_of_tuples, new_range, numbered, only_named, pair_at, pairs_from, printed, range, range_of, read_int, reversed, rows_of, separator, silent, sorted, tested, truth, tuple_of, tuples, two_of, unnamed, walk_alike, walk_first, walk_tuple, with_one, with_one_or_two, with_optional, zip}
 use Rattle.star_meaning.proofs.MovedValues.{Moving, bool_moved, by_out, by_two, entry_to, int_moved, keys_moved, layer, moved, moved_bool, moved_int, moved_none, moved_range, moved_tuple, pair_to, text_moved, type_moved, weight_moved}

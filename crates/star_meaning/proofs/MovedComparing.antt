@@ -1,7 +1,7 @@
 -- Comparing, truth, items and written forms are the same with other numbers of objects.
-use Rattle.std.proofs.Common.{◌≡◌, ℕ, ℤ, zero, suc, ◌+◌, List, [], ◌∷◌, ◌++◌, map, length, Bool, true, false, refl, sym, ap, subst, ◌∙◌}
+use Rattle.std.proofs.Common.{◌≡◌, ℕ, ℤ, zero, suc, ◌+◌, List, [], ◌∷◌, map, length, Bool, true, false, refl, sym, ap, subst, ◌∙◌}
 use Rattle.std.proofs.lemmas.List.{length-map}
-use Rattle.std.specs.Prelude.{Option, Some, None, option_map, ◌==◌, not, ◌&&◌, if◌then◌else◌, is_some, nat_lt, codes}
+use Rattle.std.specs.Prelude.{Option, Some, None, option_map, ◌==◌, not, ◌&&◌, is_some, nat_lt, codes}
 use Rattle.star_syntax.specs.declared.operator.CompareOp.{CompareOp}
 use Rattle.star_syntax.specs.declared.operator.CompareOp.TheVariants as op
 use Rattle.star_value.specs.declared.failure.Failure.{Failure}

@@ -1,5 +1,5 @@
 -- Expressions mean the same with other numbers of objects: the forms, over parts of which it holds.
-use Rattle.std.proofs.Common.{◌≡◌, ℕ, suc, List, [], ◌∷◌, ◌++◌, map, length, Bool, true, false, refl, sym, ap, subst, ◌∙◌}
+use Rattle.std.proofs.Common.{◌≡◌, ℕ, List, [], ◌∷◌, ◌++◌, map, length, Bool, true, false, refl, sym, ap, subst, ◌∙◌}
 use Rattle.std.proofs.lemmas.List.{map-append}
 use Rattle.std.specs.Prelude.{Option, Some, None, is_some, option_map, if◌then◌else◌}
 use Rattle.std.specs.List.{flat_map}
@@ -13,29 +13,26 @@ use Rattle.star_syntax.specs.declared.expression.Named.{Named}
 use Rattle.star_syntax.specs.declared.expression.Pair.{Pair}
 use Rattle.star_syntax.specs.declared.operator.CompareOp.{CompareOp}
 use Rattle.star_syntax.specs.declared.operator.UnaryOp.{UnaryOp}
-use Rattle.star_value.specs.declared.failure.Failure.{Failure}
 use Rattle.star_value.specs.declared.failure.Failure.TheVariants as failure
 use Rattle.star_value.specs.declared.key.Key.{Key}
 use Rattle.star_value.specs.declared.value.Value.{Value}
-use Rattle.star_value.specs.declared.value.Value.TheVariants as value
-use Rattle.star_value.specs.Weight.{weight}
 use Rattle.star_meaning.specs.State.{dict_get, dict_put}
-use Rattle.star_meaning.specs.Steps.{Action, Steps, ◌>>=◌, ◌>>◌, fail, pure}
+use Rattle.star_meaning.specs.Steps.{◌>>=◌, ◌>>◌, fail}
 use Rattle.star_meaning.specs.Operators.{unpacked}
 use Rattle.star_meaning.specs.Operators as operators
 use Rattle.star_meaning.specs.Builtins.{ByName}
 use Rattle.star_meaning.specs.Methods.{call_method}
 use Rattle.star_meaning.specs.Values.{has, new_tuple}
-use Rattle.star_meaning.specs.World.{Frame, Work, World, acting, distinct, in_block, lock_of, locking, operate, turns, unbound}
+use Rattle.star_meaning.specs.World.{Work, acting, distinct, in_block, lock_of, locking, operate, turns, unbound}
 use Rattle.star_meaning.specs.Expressions.{item_value, Callee, Meant, call_function, clause_names, clauses_from, compared, comprehension, dict_turn, display_pairs, input_value, list_turn, loop_over, method_called, named_from, named_values, new_key, next_item, optional_value, signed, step_value, store_at, store_each, store_in, store_items, tests_value, truth, values, values_from}
 use Rattle.star_meaning.proofs.MovedValues.{Moving, entry_to, moved, moved_bool, moved_int, moved_none, moved_text, pair_to}
 use Rattle.star_meaning.proofs.MovedLists.{get_map, put_map, some_map}
-use Rattle.star_meaning.proofs.Moved.{Acts, act_fail, act_if, act_pure, act_then, has_moved}
+use Rattle.star_meaning.proofs.Moved.{act_fail, act_if, act_pure, act_then, has_moved}
 use Rattle.star_meaning.proofs.MovedComparing.{Acts_same, act_compare, act_items_of, act_key_in, act_new_tuple, truth_moved}
 use Rattle.star_meaning.proofs.MovedOperators.{Acts_value, act_charged_list, act_int, act_store, act_text, act_unary, act_unpacked}
 use Rattle.star_meaning.proofs.MovedBuiltins.{act_bool, named_to}
 use Rattle.star_meaning.proofs.MovedMethods.{act_call_method}
-use Rattle.star_meaning.proofs.MovedWorld.{Goes, Goes_same, Goes_value, block_to, frame_to, go_acting, go_by_frame, go_charging, go_fail, go_if, go_in_block, go_locking, go_operate, go_pure, go_reading, go_then, go_turns, go_weight, lock_moved, unbound_moved}
+use Rattle.star_meaning.proofs.MovedWorld.{Goes, Goes_same, Goes_value, go_acting, go_by_frame, go_charging, go_fail, go_if, go_in_block, go_locking, go_operate, go_pure, go_reading, go_then, go_turns, go_weight, lock_moved, unbound_moved}
 
 -- what holds of each item
 abbrev pub Every : {A : Type 0} → (A → Type 0) → List A → Type 0

@@ -1,6 +1,6 @@
 -- Expressions mean the same with other numbers of objects: each form, and each tree.
-use Rattle.std.proofs.Common.{◌≡◌, ℕ, List, [], ◌∷◌, ◌++◌, map, Bool, true, false, refl, sym, ap, subst, ◌∙◌}
-use Rattle.std.specs.Prelude.{Option, Some, None, option_map}
+use Rattle.std.proofs.Common.{◌≡◌, ℕ, List, [], ◌∷◌, map, Bool, true, false, refl, sym, subst}
+use Rattle.std.specs.Prelude.{Option, Some, None}
 use Rattle.chex_base.specs.Inputs as inputs
 use Rattle.star_syntax.specs.declared.expression.Arm.{Arm}
 use Rattle.star_syntax.specs.declared.expression.Expr.{Expr, fold-roll-Expr, ind-Expr, map-Expr, roll-Expr}
@@ -16,23 +16,21 @@ use Rattle.star_syntax.specs.declared.expression.Named.{Named}
 use Rattle.star_syntax.specs.declared.expression.Pair.{Pair}
 use Rattle.star_syntax.specs.declared.expression.ChainOp.{ChainOp}
 use Rattle.star_syntax.specs.declared.expression.ChainOp.TheVariants as chain
-use Rattle.star_value.specs.declared.failure.Failure.{Failure}
 use Rattle.star_value.specs.declared.failure.Failure.TheVariants as failure
-use Rattle.star_value.specs.declared.value.Value.{Value, out-Value}
+use Rattle.star_value.specs.declared.value.Value.{Value}
 use Rattle.star_value.specs.declared.value.Value.TheOpen.{Value-F}
-use Rattle.star_value.specs.declared.value.Value.TheVariants as value
-use Rattle.star_meaning.specs.Steps.{Action, ◌>>=◌, pure, fail, given_or}
+use Rattle.star_meaning.specs.Steps.{Action, pure}
 use Rattle.star_meaning.specs.Builtins.{ByName}
-use Rattle.star_meaning.specs.World.{Work, operate, operation, without_first}
-use Rattle.star_meaning.specs.Expressions.{Callee, Meant, Setting, call_written, called, called_at, chained, chosen, primary, headed, input_name, input_value, linked, meant, naming, parts, place, read_input, step, suffix_value, suffixed, turned}
+use Rattle.star_meaning.specs.World.{Work, operation, without_first}
+use Rattle.star_meaning.specs.Expressions.{Callee, Meant, Setting, call_written, called, called_at, chained, chosen, primary, headed, input_name, linked, meant, naming, parts, place, read_input, step, suffix_value, suffixed, turned}
 use Rattle.star_meaning.proofs.MovedValues.{Moving, by_out, layer, moved, moved_bool, moved_int, moved_none, moved_text}
 use Rattle.star_meaning.proofs.Moved.{Acts, act_then}
 use Rattle.star_meaning.proofs.MovedComparing.{act_given, act_new_tuple}
 use Rattle.star_meaning.proofs.Moved.{act_new_dict, act_new_list}
 use Rattle.star_meaning.proofs.MovedOperators.{act_binary, act_index, act_slice}
 use Rattle.star_meaning.proofs.MovedBuiltins.{act_call_builtin, answer_to, named_to}
-use Rattle.star_meaning.proofs.MovedWorld.{Goes, Goes_same, Goes_value, go_acting, go_bind, go_charging, go_fail, go_if, go_look_up, go_operate, go_operation, go_pure, go_then, go_write}
-use Rattle.star_meaning.proofs.MovedExpressions.{Every, IfThere, GoesCallee, GoesMeant, Means, MeansClause, MeansNamed, MeansPair, act_compared, act_input_value, go_call_function, go_comprehension, go_dict_turn, go_display_pairs, go_list_turn, go_method_called, go_named_values, go_optional_value, go_signed, go_step_value, go_store_at, go_store_items, go_truth, go_values}
+use Rattle.star_meaning.proofs.MovedWorld.{Goes, Goes_value, go_acting, go_bind, go_charging, go_fail, go_if, go_look_up, go_operate, go_operation, go_pure, go_then, go_write}
+use Rattle.star_meaning.proofs.MovedExpressions.{Every, IfThere, GoesCallee, GoesMeant, MeansClause, MeansNamed, MeansPair, act_compared, act_input_value, go_call_function, go_comprehension, go_dict_turn, go_display_pairs, go_list_turn, go_method_called, go_named_values, go_optional_value, go_signed, go_step_value, go_store_at, go_store_items, go_truth, go_values}
 
 module _ (mv : Moving) where
   abbrev each : List Value → List Value

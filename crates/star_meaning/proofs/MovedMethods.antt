@@ -5,15 +5,14 @@ use Rattle.std.specs.Prelude.{Option, Some, None, option_map, if◌then◌else�
 use Rattle.std.specs.List.{flat_map, insert, remove}
 use Rattle.star_value.specs.declared.failure.Failure.TheVariants as failure
 use Rattle.star_value.specs.declared.key.Key.{Key}
-use Rattle.star_value.specs.declared.value.Value.{Value, out-Value}
+use Rattle.star_value.specs.declared.value.Value.{Value}
 use Rattle.star_value.specs.declared.value.Value.TheOpen.{Value-F}
 use Rattle.star_value.specs.declared.value.Value.TheVariants as value
 use Rattle.star_value.specs.Keys as keys
 use Rattle.star_value.specs.Texts as texts
-use Rattle.star_value.specs.Weight.{weight}
 use Rattle.star_meaning.specs.State.{dict, dict_get, dict_put, dict_without, list, with_dict, with_list}
 use Rattle.star_meaning.specs.Steps.{Action, ◌>>=◌, ◌>>◌, change, charge, given_or, pure, read}
-use Rattle.star_meaning.specs.Values.{charge_items, charge_weight, is_empty, key_values, named_in, place_of}
+use Rattle.star_meaning.specs.Values.{charge_items, charge_weight, key_values, named_in, place_of}
 use Rattle.star_meaning.specs.Builtins.{ByName, as_int_or, list_of_tuples, unnamed}
 use Rattle.star_meaning.specs.Comparing.{key_in, search_in}
 use Rattle.star_meaning.specs.Operators.{charged_list, check_unlocked, item_at}
@@ -23,7 +22,7 @@ use Rattle.star_meaning.proofs.MovedLists.{get_map, insert_map, put_map, remove_
 use Rattle.star_meaning.proofs.Moved.{Acts, act_charge, act_dict, act_fail, act_given_or, act_if, act_list, act_pure, act_read, act_then, act_unlocked, act_with_dict, act_with_list, dict_moved}
 use Rattle.star_meaning.proofs.MovedComparing.{Acts_same, act_charge_items, act_charge_weight, act_given, act_items_of, act_key_in, act_search_in}
 use Rattle.star_meaning.proofs.MovedOperators.{Acts_value, act_charged_list, act_extend, act_int, act_item_at, act_lookup, act_text}
-use Rattle.star_meaning.proofs.MovedBuiltins.{act_as_int, act_as_int_or, act_as_text, act_bool, act_list_of_tuples, act_unnamed, act_with_one, act_with_one_or_two, act_with_optional, named_to}
+use Rattle.star_meaning.proofs.MovedBuiltins.{act_as_int, act_as_int_or, act_as_text, act_bool, act_list_of_tuples, act_unnamed, act_with_one_or_two, act_with_optional, named_to}
 
 -- what a table has at a name does the same
 abbrev Has : {A : Type 0} → (A → Type 0) → Option A → Type 0
@@ -326,7 +325,6 @@ module _ {C : Type 0} (mv : Moving) where
   act_tested_with f text (v ∷ []) = act_then mv _ (act_as_text mv v) (λ what. act_then mv _ (act_charge mv _) (λ _. act_bool mv refl))
   act_tested_with f text [] = act_fail mv
   act_tested_with f text (x ∷ y ∷ vs) = act_fail mv
-
   -- ---- tables and calls
 
 module _ (C : Type 0) (mv : Moving) where

@@ -1,31 +1,29 @@
 -- The operators do the same with other numbers of objects.
-use Rattle.std.proofs.Common.{◌≡◌, ℕ, ℤ, pos, List, [], ◌∷◌, ◌++◌, map, length, Bool, true, false, refl, sym, ap, subst, ◌∙◌}
+use Rattle.std.proofs.Common.{◌≡◌, ℕ, ℤ, pos, List, [], ◌∷◌, ◌++◌, map, length, refl, sym, ap, subst, ◌∙◌}
 use Rattle.std.proofs.lemmas.List.{length-map, map-append}
 use Rattle.std.specs.Int.{int_bit_and, int_bit_or, int_bit_xor, w128}
 use Rattle.std.specs.List.{repeat}
-use Rattle.std.specs.Prelude.{◌-ℤ◌, Option, Some, None, option_map, slice_set, ◌==◌, not, ◌&&◌, if◌then◌else◌, unwrap_or, is_some}
+use Rattle.std.specs.Prelude.{◌-ℤ◌, Option, Some, None, option_map, slice_set, ◌==◌, not, ◌&&◌, unwrap_or, is_some}
 use Rattle.star_syntax.specs.declared.operator.BinaryOp.{BinaryOp}
 use Rattle.star_syntax.specs.declared.operator.BinaryOp.TheVariants as op
 use Rattle.star_syntax.specs.declared.operator.UnaryOp.{UnaryOp}
 use Rattle.star_syntax.specs.declared.operator.UnaryOp.TheVariants as sign
-use Rattle.star_value.specs.declared.failure.Failure.{Failure}
 use Rattle.star_value.specs.declared.failure.Failure.TheVariants as failure
 use Rattle.star_value.specs.declared.format.Part.{Part}
 use Rattle.star_value.specs.declared.format.Part.TheVariants as part
 use Rattle.star_value.specs.declared.key.Key.{Key}
-use Rattle.star_value.specs.declared.range.Range.{Range}
 use Rattle.star_value.specs.declared.value.Value.{Value, out-Value}
 use Rattle.star_value.specs.declared.value.Value.TheOpen.{Value-F}
 use Rattle.star_value.specs.declared.value.Value.TheVariants as value
 use Rattle.star_value.specs.Format.{parts_of}
 use Rattle.star_meaning.specs.State.{list, dict, dict_get, dict_put, with_list}
 use Rattle.star_meaning.specs.Steps.{Action, change, given_or, pure, read, ◌>>=◌}
-use Rattle.star_meaning.specs.Values.{in_range, integer, times, floor_of, rest_of, is_zero, place_of, int_in, range_item}
+use Rattle.star_meaning.specs.Values.{in_range, integer, times, floor_of, rest_of, place_of, int_in, range_item}
 use Rattle.star_meaning.specs.Showing.{Naming}
-use Rattle.star_meaning.specs.Operators.{bound, bound_at, add_at, added_in_place, augmented, binary, Bounds, charged_list, check_sliced, decimal_text, decimals_fit, divided, extend, filled, formatted_parts, index, index_at, is_sliced, item_at, joined_lists, modulo_at, multiply_at, on_ints, put_key, range_item_at, repeated_list, slice, slice_at, stepped, store, store_at, store_item, store_key, taken, unary, unpacked, unpacked_at, value_at_key, values_for, values_taken}
-use Rattle.star_meaning.proofs.MovedValues.{Moving, by_out, by_two, int_moved, layer, moved, moved_int, moved_text, moved_tuple, pair_to}
+use Rattle.star_meaning.specs.Operators.{bound, bound_at, add_at, added_in_place, augmented, binary, Bounds, charged_list, check_sliced, decimal_text, decimals_fit, divided, extend, filled, formatted_parts, index, index_at, is_sliced, item_at, joined_lists, modulo_at, multiply_at, on_ints, repeated_list, slice, slice_at, stepped, store, store_at, store_item, store_key, taken, unary, unpacked, unpacked_at, value_at_key, values_for, values_taken}
+use Rattle.star_meaning.proofs.MovedValues.{Moving, by_out, by_two, int_moved, layer, moved, moved_int, moved_text, moved_tuple}
 use Rattle.star_meaning.proofs.MovedLists.{get_map, item_map, put_map, repeat_map, set_map, taken_map}
-use Rattle.star_meaning.proofs.Moved.{Acts, Within, act_charge, act_fail, act_given_or, act_if, act_list, act_new_list, act_pure, act_read, act_then, act_unlocked, act_with_dict, act_with_list, dict_moved}
+use Rattle.star_meaning.proofs.Moved.{Acts, act_fail, act_given_or, act_if, act_list, act_new_list, act_pure, act_read, act_then, act_unlocked, act_with_dict, act_with_list, dict_moved}
 use Rattle.star_meaning.proofs.MovedComparing.{Acts_same, act_charge_items, act_charge_weight, act_given, act_items_of, act_joined, act_key_in, act_quoted, act_shown}
 
 module _ (mv : Moving) where

@@ -1,8 +1,8 @@
 -- Statements and calls do the same with other numbers of objects.
-use Rattle.std.proofs.Common.{◌≡◌, ◌≤◌, ℕ, zero, suc, ◌+◌, List, [], ◌∷◌, ◌++◌, map, Bool, true, false, refl, sym, ap, arith, subst, ◌∙◌}
+use Rattle.std.proofs.Common.{◌≡◌, ◌≤◌, ℕ, zero, suc, List, [], ◌∷◌, ◌++◌, map, Bool, true, false, refl, sym, ap, arith, subst, ◌∙◌}
 use Rattle.std.proofs.lemmas.List.{map-append}
 use Rattle.std.specs.Prelude.{Option, Some, None, option_map, ◌&&◌, not, sum, if◌then◌else◌, bytes_eq}
-use Rattle.std.specs.List.{cons_option, filter, filter_map, list_all}
+use Rattle.std.specs.List.{cons_option, filter, list_all}
 use Rattle.star_syntax.specs.declared.expression.Expr.{Expr}
 use Rattle.star_syntax.specs.declared.expression.Named.{Named}
 use Rattle.star_syntax.specs.declared.operator.BinaryOp.{BinaryOp}
@@ -17,26 +17,23 @@ use Rattle.star_syntax.specs.declared.statement.SmallKind.TheVariants as small
 use Rattle.star_syntax.specs.declared.statement.Statement.{Statement, fold-roll-Statement, ind-Statement, map-Statement, roll-Statement}
 use Rattle.star_syntax.specs.declared.statement.Statement.TheOpen.{Statement-F}
 use Rattle.star_value.specs.declared.failure.Failure.{Failure}
-use Rattle.star_value.specs.declared.failure.Failure.TheVariants as failure
-use Rattle.star_value.specs.declared.value.Value.{Value, out-Value}
+use Rattle.star_value.specs.declared.value.Value.{Value}
 use Rattle.star_value.specs.declared.value.Value.TheOpen.{Value-F}
 use Rattle.star_value.specs.declared.value.Value.TheVariants as value
 use Rattle.star_meaning.specs.declared.flow.Flow.{Flow}
 use Rattle.star_meaning.specs.declared.flow.Flow.TheVariants as flow
-use Rattle.star_meaning.specs.State.{function}
-use Rattle.star_meaning.specs.Steps.{Outcome, Went, Failed, ◌>>=◌, charge}
+use Rattle.star_meaning.specs.Steps.{Outcome, Went, Failed, ◌>>=◌}
 use Rattle.star_meaning.specs.Values.{is_empty}
 use Rattle.star_meaning.specs.Showing.{made, quoted, ◌<+>◌}
 use Rattle.star_meaning.specs.Operators as operators
 use Rattle.star_meaning.specs.Builtins.{ByName}
 use Rattle.star_meaning.specs.World.{World, Work, Fault, Course, acting, distinct, is_among, lock_of, locking, operate, unbound, write}
 use Rattle.star_meaning.specs.World as world
-use Rattle.star_meaning.specs.Expressions.{Setting, Callee, Meant, meant, naming, next_item, tests_value}
+use Rattle.star_meaning.specs.Expressions.{Setting, Callee, meant, naming, next_item, tests_value}
 use Rattle.star_meaning.specs.Statements.{Doing, Filled, Parameter, after_turn, all_meant, block_of, body_names, body_of, branches_of, call_to, condition_of, cons_some, default_names, default_weight, defined, echo, echo_at, echo_if, else_of, ended, filled, filled_by_name, filled_from, for_turns, given_by, go_on, in_sequence, iterated, kind_of, layer_of, line_of, local_block, operator, parameters_of, repeated, result_of, returned, run_body, run_defined, run_filled, run_function, small_of, statement_of, then_on}
-use Rattle.star_meaning.specs.Growing.{reached}
-use Rattle.star_meaning.proofs.MovedValues.{Moving, by_out, entry_to, layer, moved, moved_none, weight_moved}
+use Rattle.star_meaning.proofs.MovedValues.{Moving, by_out, layer, moved, moved_none, weight_moved}
 use Rattle.star_meaning.proofs.MovedLists.{cons_map}
-use Rattle.star_meaning.proofs.Moved.{Lands, Within, act_charge_is, act_new_function, reaches}
+use Rattle.star_meaning.proofs.Moved.{Lands, act_charge_is, act_new_function, reaches}
 use Rattle.star_meaning.proofs.MovedComparing.{act_items_of, act_joined, act_made, act_quoted, function_moved, parts_to}
 use Rattle.star_meaning.proofs.MovedOperators.{act_augmented}
 use Rattle.star_meaning.proofs.MovedBuiltins.{named_to}

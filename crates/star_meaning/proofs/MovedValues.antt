@@ -1,6 +1,6 @@
 -- Values with other numbers of objects.
-use Rattle.std.proofs.Common.{◌≡◌, ℕ, ℤ, List, [], ◌∷◌, ◌++◌, map, length, Bool, true, false, refl, sym, ap, subst, ◌∙◌}
-use Rattle.std.specs.Prelude.{◌==◌, Option, Some, None, option_map, sum}
+use Rattle.std.proofs.Common.{◌≡◌, ℕ, ℤ, List, [], ◌∷◌, map, Bool, refl, sym, ap, subst, ◌∙◌}
+use Rattle.std.specs.Prelude.{◌==◌, Option, sum}
 use Rattle.star_value.specs.declared.builtin.Builtin.{Builtin}
 use Rattle.star_value.specs.declared.key.Key.{Key, fold-roll-Key, ind-Key, map-Key, roll-Key}
 use Rattle.star_value.specs.declared.key.Key.TheOpen.{Key-F}
@@ -11,7 +11,7 @@ use Rattle.star_value.specs.declared.value.Value.TheVariants as value
 use Rattle.star_value.specs.Keys as keys
 use Rattle.star_value.specs.Keys.{key_of, key_step, value_step}
 use Rattle.star_value.specs.Weight.{depth, depth_step, weight, weight_step, sum_of_weights}
-use Rattle.star_meaning.specs.State.{Object, AList, ADict, AFunction, dict_get, dict_put, dict_without}
+use Rattle.star_meaning.specs.State.{Object, AList, ADict, AFunction}
 use Rattle.star_meaning.specs.Values.{bool_at, bool_in, int_at, int_in, key_values, text_at, text_in, type_name, type_name_at}
 
 -- other numbers for objects, where different numbers stay different, and how many objects there may be

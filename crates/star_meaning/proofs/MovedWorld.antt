@@ -11,18 +11,17 @@ use Rattle.chex_base.specs.TextOrder.{text_cmp}
 use Rattle.star_value.specs.declared.builtin.Builtin.{Builtin}
 use Rattle.star_value.specs.declared.failure.Failure.{Failure}
 use Rattle.star_value.specs.declared.failure.Failure.TheVariants as failure
-use Rattle.star_value.specs.declared.value.Value.{Value, out-Value}
+use Rattle.star_value.specs.declared.value.Value.{Value}
 use Rattle.star_value.specs.declared.value.Value.TheOpen.{Value-F}
 use Rattle.star_value.specs.declared.value.Value.TheVariants as value
 use Rattle.star_value.specs.Weight.{weight}
 use Rattle.star_meaning.specs.State.{State, global, object, set_global}
-use Rattle.star_meaning.specs.Steps.{Outcome, Went, Failed, Steps, Store, Action, ◌>>=◌, pure, fail, given_or, charge}
+use Rattle.star_meaning.specs.Steps.{Outcome, Went, Failed, Steps, Store, Action, ◌>>=◌, pure, fail, charge}
 use Rattle.star_meaning.specs.Values.{builtin_of, named_in}
-use Rattle.star_meaning.specs.World.{Block, Fault, Frame, World, Work, Course, acting, bind, binding, bound_in, entered, first_some, in_block, in_function, left_block, located, located_at, lock_at, lock_of, locking, look_up, operate, operation, put_back, reading, rebound, slot_of, turns, unbound, unlocked, value_in, with_frame, with_store, without_block, without_first, write}
-use Rattle.star_meaning.specs.Growing.{reached}
-use Rattle.star_meaning.proofs.MovedValues.{Moving, by_out, entry_to, layer, moved, moved_builtin, object_to, weight_moved}
-use Rattle.star_meaning.proofs.Moved.{Acts, Lands, Moves, View, Within, act_charge, act_charge_is, count, moves_fail, moves_given_or, moves_if, moves_pure, moves_then, of_store, outcome_to, reaches}
-use Rattle.star_meaning.proofs.MovedComparing.{Acts_same, act_charge_weight}
+use Rattle.star_meaning.specs.World.{Block, Frame, World, Work, acting, bind, binding, bound_in, entered, first_some, in_block, in_function, left_block, located, located_at, lock_at, lock_of, locking, look_up, operate, operation, put_back, reading, rebound, slot_of, turns, unbound, unlocked, value_in, with_frame, with_store, without_first, write}
+use Rattle.star_meaning.proofs.MovedValues.{Moving, by_out, entry_to, layer, moved, moved_builtin, weight_moved}
+use Rattle.star_meaning.proofs.Moved.{Acts, Lands, Moves, View, Within, act_charge, act_charge_is, count, moves_fail, moves_given_or, moves_if, moves_pure, moves_then, of_store, reaches}
+use Rattle.star_meaning.proofs.MovedComparing.{act_charge_weight}
 
 module _ (mv : Moving) where
   abbrev pub slot_to : List ℕ × Option Value → List ℕ × Option Value
