@@ -1,13 +1,14 @@
 -- What a cut does.
-use Rattle.std.proofs.Common.{◌≡◌, ◌≢◌, ℕ, zero, suc, ◌+◌, ◌-◌, ◌<◌, ◌≤◌, Bool, true, false, cond, eqb, ◌||◌, List, [], ◌∷◌, ◌++◌, length, get_or, set, map, fold, replicate, Option, Some, None, refl, sym, ap, ◌∙◌, subst, arith, append_assoc}
-use Rattle.std.specs.List.{All, list_any, find, range_with_len}
+use Rattle.std.proofs.Common.{◌≡◌, ◌≢◌, ℕ, zero, suc, ◌+◌, ◌-◌, ◌<◌, ◌≤◌, Bool, true, false, cond, eqb, ◌||◌, List, [], ◌∷◌, ◌++◌, length, get_or, set, map, fold, replicate, Option, Some, None, refl, sym, ap, ◌∙◌, subst, arith, append_assoc, add-one, take, drop}
+use Rattle.std.specs.List.{All, list_any, find, range_with_len, slice_get}
 use Rattle.std.specs.Option.{unwrap_or}
 use Rattle.std.proofs.lemmas.Bool.{false≢true}
 use Rattle.std.proofs.lemmas.Bool.Decides.{Decides-eqb}
-use Rattle.std.proofs.lemmas.List.{get_or_append_left, get_or_push, length_push, length-set, get_or-set_same, get_or-set_other, append-nil, same_lists, length-replicate, get_or-replicate, get_or_past}
+use Rattle.std.proofs.lemmas.List.{get_or_append_left, get_or_push, length_push, length-set, get_or-set_same, get_or-set_other, append-nil, same_lists, length-replicate, length-map, get_or-map, drop_more, map_more, set_at, get_or_at, length-take-le}
 use Rattle.std.proofs.lemmas.List.Elements.{All-head, All-tail}
 use Rattle.std.proofs.lemmas.List.FromFn.{length-map-range_with_len, get_or-map-range_with_len}
 use Rattle.exec_tree.specs.Forests.{ForestParts, parents_of, parents, parent_of, paths, path, is_cut, is_removed, is_among, children_in, children_of, marked, moved, cut}
+use Rattle.star_syntax.specs.Cells.{numbered}
 use Rattle.exec_tree.specs.Kept.{cleared, AreLinked, IsKept}
 use Rattle.exec_tree.specs.declared.node.Node.{Node}
 
@@ -128,25 +129,26 @@ marked_at (n ∷ failed) marks i within =
     ∙ ap (λ t. t || is_among failed (i + 1)) (mark_at marks n i first.0 first.1 (eqb n (i + 1)) refl)
     ∙ or_assoc (get_or marks i false) (eqb n (i + 1)) (is_among failed (i + 1))
 
+differs : (a b : ℕ) → (a ≡ b → ⊥) → eqb a b ≡ false
+differs a b other = by (eqb a b) refl
+  where
+    by : (t : Bool) → eqb a b ≡ t → t ≡ false
+    by true is = absurd (other ((Decides-eqb a b).0 is))
+    by false is = refl
+
 none_zero : (failed : List ℕ) (count : ℕ) → AreWithin failed count → is_among failed 0 ≡ false
 none_zero [] count within = refl
 none_zero (n ∷ failed) count within =
     let first = All-head (λ n. (1 ≤ n) × (n ≤ count)) n failed within in
-    ap (λ t. t || is_among failed 0) (differs n (omega (arith, first.0))) ∙ none_zero failed count (All-tail (λ n. (1 ≤ n) × (n ≤ count)) n failed within)
-  where
-    differs : (n : ℕ) → 1 ≤ n → eqb n 0 ≡ false
-    differs zero least = absurd (omega arith)
-    differs (suc n) least = refl
+    ap (λ t. t || is_among failed 0) (differs n 0 (λ is. absurd (omega (arith, is, first.0)))) ∙ none_zero failed count (All-tail (λ n. (1 ≤ n) × (n ≤ count)) n failed within)
 
 -- a node is cut where it was or where it failed
 pub cut_is_cut : (failed : List ℕ) (forest : ForestParts) (n : ℕ) → length forest.cut ≡ length forest.nodes → AreWithin failed (length forest.nodes) → is_cut (cut failed forest) n ≡ (is_cut forest n || is_among failed n)
 unfolding cut
 cut_is_cut failed forest zero marks within = sym (none_zero failed (length forest.nodes) within)
 cut_is_cut failed forest (suc i) marks within =
-    let back : suc i - 1 ≡ i = omega arith in
-    let next : i + 1 ≡ suc i = omega arith in
-    marked_at failed forest.cut (suc i - 1) (subst (AreWithin failed) (sym marks) within)
-    ∙ ap (λ k. get_or forest.cut (suc i - 1) false || is_among failed k) (ap (λ k. k + 1) back ∙ next)
+    marked_at failed forest.cut i (subst (AreWithin failed) (sym marks) within)
+    ∙ ap (λ k. get_or forest.cut i false || is_among failed k) (add-one i)
 
 any_or : (p q r : ℕ → Bool) → ((n : ℕ) → r n ≡ (p n || q n)) → (xs : List ℕ) → list_any r xs ≡ (list_any p xs || list_any q xs)
 any_or p q r both [] = refl
@@ -226,7 +228,7 @@ fresh (suc n) (suc i) = fresh n i
 not_cut : (nodes : List Node) (ends : List ℕ) (n : ℕ) → children_in (parents_of nodes) n ≡ children_of (record { nodes = nodes; cut = replicate (length nodes) false; ends = ends }) n
 unfolding children_of
 not_cut nodes ends zero = refl
-not_cut nodes ends (suc i) = ap (λ t. cond t [] (children_in (parents_of nodes) (suc i))) (sym (fresh (length nodes) (suc i - 1)))
+not_cut nodes ends (suc i) = ap (λ t. cond t [] (children_in (parents_of nodes) (suc i))) (sym (fresh (length nodes) i))
 
 pub fresh_children : (nodes : List Node) (ends : List ℕ) (numbers : List ℕ)
     → map (children_in (parents_of nodes)) numbers ≡ map (children_of (record { nodes = nodes; cut = replicate (length nodes) false; ends = ends })) numbers
@@ -262,3 +264,84 @@ cut_kept nodes children children' cuts cuts' ends ends' failed kept within cuts_
   marks = ap length cuts_are ∙ length-marked failed cuts ∙ kept.marks;
   few = kept.few;
 }
+
+-- ---- what the code reads
+
+abbrev pub AreLow : List Node → Type 0
+AreLow nodes = (k : ℕ) → k < length nodes → get_or (parents_of nodes) k 0 ≤ k
+
+low_parents : (nodes : List Node) → AreLow nodes → (j : ℕ) → j < length (parents_of nodes) → get_or (parents_of nodes) j 0 ≤ j
+low_parents nodes low j less = low j (omega (arith, less, length-map nodes (λ (node : Node). node.parent)))
+
+pub parent_is : (nodes : List Node) (n m : ℕ) (e : Node) → m ≡ n → 1 ≤ n → n ≤ length nodes → get_or (parents_of nodes) (n - 1) 0 ≡ (get_or nodes (m - 1) e).parent
+parent_is nodes n m e is least most =
+    get_or-map (λ (node : Node). node.parent) nodes (n - 1) e 0 (omega (arith, least, most)) ∙ ap (λ k. (get_or nodes (k - 1) e).parent) (sym is)
+
+pub parent_low : (nodes : List Node) (n m : ℕ) (e : Node) → AreLow nodes → m ≡ n → 1 ≤ n → n ≤ length nodes → (get_or nodes (m - 1) e).parent < n
+parent_low nodes n m e low is least most = omega (arith, parent_is nodes n m e is least most, low (n - 1) (omega (arith, least, most)), least)
+
+pub moved_here : (nodes : List Node) (failed : List ℕ) (at end : ℕ) → AreLow nodes → 1 ≤ at → at ≤ length nodes → is_among failed at ≡ true
+    → nearest (parents_of nodes) failed at ≡ nearest (parents_of nodes) failed end → at ≡ moved (parents_of nodes) failed end
+moved_here nodes failed at end low least most here same =
+    let ps = parents_of nodes in
+    let found = nearest_here ps failed at least (omega (arith, most, length-map nodes (λ (node : Node). node.parent))) (low_parents nodes low) here in
+    sym (moved_is ps failed end ∙ ap (λ o. unwrap_or o end) (sym same ∙ found))
+
+pub moved_nowhere : (nodes : List Node) (failed : List ℕ) (at end : ℕ) → at ≡ 0 → nearest (parents_of nodes) failed at ≡ nearest (parents_of nodes) failed end → end ≡ moved (parents_of nodes) failed end
+moved_nowhere nodes failed at end none same =
+    let ps = parents_of nodes in
+    sym (moved_is ps failed end ∙ ap (λ o. unwrap_or o end) (sym same ∙ ap (nearest ps failed) none ∙ nearest_none ps failed))
+
+pub moved_up : (nodes : List Node) (failed : List ℕ) (at m end : ℕ) (e : Node) → AreLow nodes → m ≡ at → 1 ≤ at → at ≤ length nodes → at ≤ end → is_among failed at ≡ false
+    → nearest (parents_of nodes) failed at ≡ nearest (parents_of nodes) failed end
+    → ((get_or nodes (m - 1) e).parent ≤ end) × (nearest (parents_of nodes) failed (get_or nodes (m - 1) e).parent ≡ nearest (parents_of nodes) failed end)
+moved_up nodes failed at m end e low is least most under other same =
+    let ps = parents_of nodes in
+    let above = nearest_above ps failed at least (omega (arith, most, length-map nodes (λ (node : Node). node.parent))) (low_parents nodes low) other in
+    (omega (arith, parent_low nodes at m e low is least most, under), ap (nearest ps failed) (sym (parent_is nodes at m e is least most)) ∙ sym above ∙ same)
+
+pub one_moved : (f : ℕ → ℕ) (all ends : List ℕ) (i item value : ℕ) → ends ≡ map f (take i all) ++ drop i all → i < length all → item ≡ get_or ends i item → value ≡ f item
+    → set ends i value ≡ map f (take (i + 1) all) ++ drop (i + 1) all
+one_moved f all ends i item value are less read value_is =
+    let x = get_or all i 0 in
+    let front = map f (take i all) in
+    let behind = drop (i + 1) all in
+    let long : length front ≡ i = length-map (take i all) f ∙ length-take-le i all (omega (arith, less)) in
+    let split : ends ≡ front ++ (x ∷ behind) = are ∙ ap (λ l. front ++ l) (drop_more all i 0 less) in
+    let item_is : item ≡ x = read ∙ ap (λ l. get_or l i item) split ∙ get_or_at front x behind item i long in
+    ap (λ l. set l i value) split
+    ∙ set_at front x behind value i long
+    ∙ ap (λ v. front ++ (v ∷ behind)) (value_is ∙ ap f item_is)
+    ∙ sym (append_assoc front (f x ∷ []) behind)
+    ∙ ap (λ l. l ++ behind) (sym (map_more f all i 0 less))
+
+pub numbered_at : {X : Type 0} (f : Node → X) (nodes : List Node) (n m : ℕ) (e : Node) → m ≡ n → 1 ≤ n → n ≤ length nodes → e ≡ get_or nodes (m - 1) e → numbered (map f nodes) n ≡ Some (f e)
+numbered_at f nodes zero m e is least most read = absurd (omega arith)
+numbered_at f nodes (suc i) m e is least most read =
+    let back : m - 1 ≡ i = omega (arith, is) in
+    placed f nodes i e (omega arith) ∙ ap (λ (x : Node). Some (f x)) (ap (λ k. get_or nodes k e) (sym back) ∙ sym read)
+  where
+    placed : {X : Type 0} (f : Node → X) (nodes : List Node) (i : ℕ) (e : Node) → i < length nodes → slice_get (map f nodes) i ≡ Some (f (get_or nodes i e))
+    placed f [] i e less = absurd (omega arith)
+    placed f (node ∷ nodes) zero e less = refl
+    placed f (node ∷ nodes) (suc i) e less = placed f nodes i e (omega arith)
+
+pub kept_long : (nodes : List Node) (children : List (List ℕ)) (cuts : List Bool) (ends : List ℕ) → IsKept nodes children cuts ends → length children ≡ length nodes + 1
+kept_long nodes children cuts ends kept =
+    ap length kept.children_are ∙ length-map-range_with_len (children_of (record { nodes = nodes; cut = cuts; ends = ends })) 0 (length nodes + 1)
+
+pub kept_row : (nodes : List Node) (children : List (List ℕ)) (cuts : List Bool) (ends : List ℕ) → IsKept nodes children cuts ends → (n m : ℕ) (row : List ℕ) → m ≡ n → n ≤ length nodes → row ≡ get_or children m row
+    → row ≡ children_of (record { nodes = nodes; cut = cuts; ends = ends }) n
+kept_row nodes children cuts ends kept n m row is most read =
+    read
+    ∙ ap (λ k. get_or children k row) is
+    ∙ ap (λ l. get_or l n row) kept.children_are
+    ∙ get_or-map-range_with_len (children_of (record { nodes = nodes; cut = cuts; ends = ends })) 0 (length nodes + 1) n n row (omega arith) (omega arith)
+
+pub few_cleared : (failed : List ℕ) (count : ℕ) (children row : List (List ℕ)) → AreWithin failed count → length children ≡ count + 1 → row ≡ children → All (λ n. n < length row) failed
+few_cleared failed count children row within long is k d less = omega (arith, (within k d less).1, long, ap length is)
+
+pub cut_view : (nodes : List Node) (cuts cuts' : List Bool) (ends ends' failed : List ℕ) → cuts' ≡ marked failed cuts → ends' ≡ map (moved (parents_of nodes) failed) ends
+    → (let was : ForestParts = record { nodes = nodes; cut = cuts; ends = ends } in let is : ForestParts = record { nodes = nodes; cut = cuts'; ends = ends' } in is ≡ cut failed was)
+unfolding cut
+cut_view nodes cuts cuts' ends ends' failed cuts_are ends_are = λ i. record { nodes = nodes; cut = cuts_are i; ends = ends_are i }

@@ -43,7 +43,7 @@ number_of-at (first ∷ rest) children hashes grows (suc i) most =
     keys_at-at all i d (omega (arith, long, most)) ∙ (same_keys-Decides (keys p) (keys (get_or all k d))).0 same ∙ sym (keys_at-at all k d (omega (arith, long, most, less))) in
     absurd (omega (arith, less, grows.apart (i + 1) (k + 1) (omega arith) (omega (arith, less, most)) twin))) in
     let here : position_or_len test all ≡ i =
-    sym (position_or_len_is test all i d (omega (arith, long, most)) before (λ less. (same_keys-Decides (keys p) (keys p)).1 refl)) in
+    position_or_len_is test all i d (omega (arith, long, most)) before (λ less. (same_keys-Decides (keys p) (keys p)).1 refl) in
     ap (number_of all) own ∙ number_of-push all p.above _ ∙ ap (λ n. 1 + n) here ∙ omega arith
 
 -- the nodes are those of their prefixes

@@ -1,5 +1,5 @@
 -- What holds while a version's cells are added.
-use Rattle.std.proofs.Common.{◌≡◌, ℕ, zero, ◌<◌, ◌≤◌, ◌+◌, ◌*◌, List, [], ◌∷◌, ◌++◌, length, map, take, drop, refl, sym, ap, ◌∙◌, arith, subst, get_or, append_assoc, length-append}
+use Rattle.std.proofs.Common.{◌≡◌, ℕ, zero, ◌<◌, ◌≤◌, ◌+◌, ◌*◌, List, [], ◌∷◌, ◌++◌, length, map, take, drop, refl, sym, ap, ◌∙◌, arith, subst, replicate, false, get_or, append_assoc, length-append}
 use Rattle.std.proofs.lemmas.List.{append-nil, drop_more, drop_all, take_all, map_push, map_more}
 use Rattle.std.proofs.lemmas.List.Elements.{All-nil, All-weaker, All-push}
 use Rattle.std.specs.List.{All, flat_map}
@@ -9,7 +9,7 @@ use Rattle.exec_tree.specs.Prefixes.{Prefix, keys_of, number_of, prefixes, prefi
 use Rattle.exec_tree.specs.Growths.{known, known_after, keys_at, with_prefix, grown, IsGrowth}
 use Rattle.exec_tree.proofs.NumberLemmas.{grown-nil, grown-cons, grown-append, grown_keeps, grown_prefixes, keys_kept, nodes_are, ends_are}
 use Rattle.exec_tree.proofs.KnownLemmas.{length-known}
-use Rattle.exec_tree.specs.Forests.{node_of, forest_of}
+use Rattle.exec_tree.specs.Forests.{ForestParts, node_of, forest_of}
 use Rattle.exec_tree.specs.Merged.{AreMerged}
 use Rattle.exec_tree.specs.declared.node.Node.{Node}
 use Rattle.exec_tree.specs.declared.checked.Checked.{Checked}
@@ -128,3 +128,10 @@ merged versions done nodes children hashes ends merging all most small =
       counted = sym (length-known nodes) ∙ ap length known_is;
       few = omega (arith, merging.few, most, small);
     }
+
+pub merged_forest : (versions : List Checked) (nodes : List Node) (children : List (List ℕ)) (ends : List ℕ) → AreMerged versions nodes children ends
+    → (let forest : ForestParts = record { nodes = nodes; cut = replicate (length nodes) false; ends = ends } in forest ≡ forest_of versions)
+unfolding forest_of
+merged_forest versions nodes children ends merged =
+    let marks = ap (λ n. replicate n false) merged.counted in
+    λ i. record { nodes = merged.nodes_are i; cut = marks i; ends = merged.ends_are i }

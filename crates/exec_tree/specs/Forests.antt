@@ -59,7 +59,8 @@ path parents n = get_or (paths parents) n []
 
 -- whether the tree was cut at a node
 abbrev pub is_cut : ForestParts → ℕ → Bool
-is_cut forest n = if n == 0 then false else get_or forest.cut (n - 1) false
+is_cut forest zero = false
+is_cut forest (suc i) = get_or forest.cut i false
 
 -- whether a node was removed: the tree was cut at a node above it
 unfoldable pub is_removed : ForestParts → ℕ → Bool

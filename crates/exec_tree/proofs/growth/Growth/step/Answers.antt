@@ -11,11 +11,11 @@ returns-in-Some-clause-known c =
     let p : Prefix = record { above = keys_at (known nodes) c.args.at; cell = c.args.cell.now; inputs = c.args.inputs.now } in
     sym (known_stays nodes p c.in-Some.node c.in-Some.ensures.low (c.in-Some.ensures.found ∙ ap (λ i. keys_at (known nodes) c.args.at ++ key_of i c.args.cell.now ∷ []) c.get.ensures))
 
-pub returns-in-None-clause-known : goal.returns-in-None-clause-known
-returns-in-None-clause-known c =
-    known_added c.args.self.now.nodes.items _ c.args.cell.now c.args.inputs.now c.args.at c.in_ok-node.ensures.nodes
+pub returns-in_ok-node-in-None-clause-known : goal.returns-in_ok-node-in-None-clause-known
+returns-in_ok-node-in-None-clause-known c =
+    known_added c.args.self.now.nodes.items _ c.args.cell.now c.args.inputs.now c.args.at c.in_ok-node-in-None.ensures.nodes
     (other_under c.args.self.now.nodes.items c.args.cell.now c.args.inputs.now _ c.args.at c.get.ensures c.in-None.ensures.none)
 
-pub returns-in-None-clause-at : goal.returns-in-None-clause-at
-returns-in-None-clause-at c =
-    keys_added c.args.self.now.nodes.items _ c.args.cell.now c.args.inputs.now c.args.at _ c.in_ok-node.ensures.nodes c.in_ok-node.ensures.last
+pub returns-in_ok-node-in-None-clause-at : goal.returns-in_ok-node-in-None-clause-at
+returns-in_ok-node-in-None-clause-at c =
+    keys_added c.args.self.now.nodes.items _ c.args.cell.now c.args.inputs.now c.args.at _ c.in_ok-node-in-None.ensures.nodes c.in_ok-node-in-None.ensures.last
