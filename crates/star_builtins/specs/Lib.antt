@@ -10,3 +10,4 @@ pub mod Walks
 pub mod Changes
 pub mod Rows
 pub mod Storing
+pub mod TextRows
