@@ -13,6 +13,7 @@ mod charges;
 mod comparing;
 mod dicts;
 mod formatting;
+mod functions;
 mod indexing;
 mod integers;
 mod lists;
@@ -35,7 +36,7 @@ mod walks;
 mod weighing;
 
 pub use bounds::Bounds;
-pub use call::{Call, NamedValues};
+pub use call::{Call, NamedValues, Objects};
 pub use comparing::compare;
 pub use indexing::index;
 pub use operators::binary;
