@@ -29,3 +29,6 @@ mod DepthLemmas
 mod TupleLemmas
 pub mod ChangedLemmas
 pub mod KeyLemmas
+mod NameLemmas
+mod RowGiven
+mod MethodLemmas

@@ -10,3 +10,5 @@ pub mod Walks
 pub mod Changes
 pub mod Rows
 pub mod Storing
+pub mod MethodRows
+pub mod MethodNames
