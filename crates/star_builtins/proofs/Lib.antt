@@ -32,3 +32,6 @@ pub mod KeyLemmas
 mod JoinLemmas
 mod GivenTexts
 mod TextLemmas
+mod NameLemmas
+mod RowGiven
+mod MethodLemmas

@@ -11,3 +11,5 @@ pub mod Changes
 pub mod Rows
 pub mod Storing
 pub mod TextRows
+pub mod MethodRows
+pub mod MethodNames

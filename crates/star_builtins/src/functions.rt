@@ -1,0 +1,6 @@
+//! The built-in functions: each file has the functions of one kind.
+
+mod conversions;
+mod printing;
+mod ranges;
+mod sorting;

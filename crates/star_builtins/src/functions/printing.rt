@@ -1,0 +1,1 @@
+//! Values as texts: what is printed, and the shown and the quoted form.

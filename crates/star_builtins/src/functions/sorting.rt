@@ -1,0 +1,1 @@
+//! Items in order, and the least and the greatest of them.
