@@ -42,10 +42,15 @@ mod weighing;
 
 pub use bounds::Bounds;
 pub use call::{Call, NamedValues, Objects};
+pub use charges::{charge_items, charge_weight};
 pub use comparing::compare;
+pub use dicts::new_dict;
 pub use indexing::index;
+pub use lists::new_list;
 pub use operators::binary;
 pub use showing::show;
 pub use signs::unary;
 pub use slicing::slice;
 pub use stores::{augmented, extend, store, unpacked};
+pub use truths::is_true;
+pub use tuples::new_tuple;
