@@ -35,3 +35,4 @@ mod TextLemmas
 mod NameLemmas
 mod RowGiven
 mod MethodLemmas
+mod Sequences

@@ -3,4 +3,5 @@
 mod conversions;
 mod printing;
 mod ranges;
+mod sequences;
 mod sorting;
