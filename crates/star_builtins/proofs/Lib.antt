@@ -32,3 +32,6 @@ pub mod KeyLemmas
 mod NameLemmas
 mod RowGiven
 mod MethodLemmas
+mod JoinLemmas
+mod GivenTexts
+mod TextLemmas

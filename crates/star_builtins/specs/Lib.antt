@@ -12,3 +12,4 @@ pub mod Rows
 pub mod Storing
 pub mod MethodRows
 pub mod MethodNames
+pub mod TextRows
