@@ -29,3 +29,4 @@ mod DepthLemmas
 mod TupleLemmas
 pub mod ChangedLemmas
 pub mod KeyLemmas
+mod CountLemmas
