@@ -36,3 +36,4 @@ mod NameLemmas
 mod RowGiven
 mod MethodLemmas
 mod Sequences
+mod CountLemmas

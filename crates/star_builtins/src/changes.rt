@@ -120,7 +120,7 @@ pub fn clear_dict(id: ObjectId, machine: &mut Machine)
 }
 
 /// Gives a key of a dict a value.
-#[tactic(auto, using(crate::proofs::FollowLemmas::follows_equal))]
+#[tactic(auto, using(crate::proofs::FollowLemmas::follows_equal, crate::proofs::CountLemmas::counts))]
 pub fn put_pair(id: ObjectId, key: Key, value: Value, machine: &mut Machine) -> Result<(), NoMemory>
     requires kind { IsTrue (is_dict (slice_get machine.old.state.objects id)) }
     requires key { IsTrue (is_proper (value_of key)) }
@@ -128,6 +128,7 @@ pub fn put_pair(id: ObjectId, key: Key, value: Value, machine: &mut Machine) -> 
     requires held { IsTrue (all_in is_proper machine.old.state) }
     ensures ok { OnOk result (machine.new ≡ record machine.old { state = state.with_dict machine.old.state id (state.dict_put (state.dict machine.old.state id) key value) }) }
     ensures follows { Follows machine.old machine.new }
+    ensures count { length machine.new.state.objects ≡ length machine.old.state.objects }
 {
     let _nodes = machine.ran();
     machine.dict_put(id, key, value)?;

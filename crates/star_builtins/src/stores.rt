@@ -1,6 +1,6 @@
 //! What stores in a list or a dict: `x[i] = v`, `+=` on a list, and the values that several targets
 //! get.
-ghost use Rattle.std.specs.Prelude.{◌≡◌, ℕ, IfOk, IsTrue, slice_get};
+ghost use Rattle.std.specs.Prelude.{◌≡◌, ℕ, IfOk, IsTrue, length, slice_get};
 ghost use Rattle.star_builtins.specs.Reached.{AllFit, Answers, Fits, Follows, GivesWeighed, HasRoom, names, store as met};
 ghost use Rattle.star_builtins.specs.Storing.{counted, unpacked_items};
 ghost use Rattle.star_meaning.specs.Operators as spec;
@@ -42,6 +42,7 @@ pub fn store(
     requires held { IsTrue (all_in is_proper machine.old.state) }
     ensures gives { Gives (spec.store locked.now of.now at value (met machine.old meter.old.left)) result (met machine.new meter.new.left) }
     ensures follows { Follows machine.old machine.new }
+    ensures count { length machine.new.state.objects ≡ length machine.old.state.objects }
 {
     match of {
         Value::Dict(id) => store_key(alloc, locked, *id, at, value, machine, meter),
@@ -64,6 +65,7 @@ fn store_place(
     requires held { IsTrue (all_in is_proper machine.old.state) }
     ensures gives { Gives (spec.store_at locked.now (Value-F.List id) at.now (out-Value at.now) value (met machine.old meter.now.left)) result (met machine.new meter.now.left) }
     ensures follows { Follows machine.old machine.new }
+    ensures count { length machine.new.state.objects ≡ length machine.old.state.objects }
 {
     match at {
         Value::Int(number) => store_item(locked, id, *number, value, machine, meter),
@@ -71,7 +73,7 @@ fn store_place(
     }
 }
 
-#[tactic(auto, using(crate::proofs::FollowLemmas::follows_equal))]
+#[tactic(auto, using(crate::proofs::FollowLemmas::follows_equal, crate::proofs::CountLemmas::counts))]
 fn store_item(
     locked: &[ObjectId],
     id: ObjectId,
@@ -85,6 +87,7 @@ fn store_item(
     requires held { IsTrue (all_in is_proper machine.old.state) }
     ensures gives { Gives (spec.store_item locked.now id number value (met machine.old meter.now.left)) result (met machine.new meter.now.left) }
     ensures follows { Follows machine.old machine.new }
+    ensures count { length machine.new.state.objects ≡ length machine.old.state.objects }
 {
     check_unlocked(locked, id)?;
     let Some(place) = place_of(number, machine.list(id).len() as u128) else {
@@ -110,6 +113,7 @@ fn store_key(
     requires held { IsTrue (all_in is_proper machine.old.state) }
     ensures gives { Gives (spec.store_key locked.now id at value (met machine.old meter.old.left)) result (met machine.new meter.new.left) }
     ensures follows { Follows machine.old machine.new }
+    ensures count { length machine.new.state.objects ≡ length machine.old.state.objects }
 {
     let key = Key::from_value(alloc, at)?;
     check_unlocked(locked, id)?;
