@@ -30,3 +30,5 @@ mod TupleLemmas
 pub mod ChangedLemmas
 pub mod KeyLemmas
 mod Sequences
+mod Rowed
+mod Columns
