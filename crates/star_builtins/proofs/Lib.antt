@@ -37,3 +37,5 @@ mod RowGiven
 mod MethodLemmas
 mod Sequences
 mod CountLemmas
+mod Rowed
+mod Columns

@@ -3,5 +3,6 @@
 mod conversions;
 mod printing;
 mod ranges;
+mod rows;
 mod sequences;
 mod sorting;
