@@ -6,16 +6,34 @@ use std::test::Fail;
 const DIVISION: &str = "print(1)\nx = 1 // 0\nprint(2)";
 
 const FAILING: [Version; 2] = [
-    Version { sources: &[DIVISION, "print(3)"], inputs: &[] },
-    Version { sources: &[DIVISION], inputs: &[] },
+    Version {
+        sources: &[DIVISION, "print(3)"],
+        inputs: &[],
+    },
+    Version {
+        sources: &[DIVISION],
+        inputs: &[],
+    },
 ];
 
 /// Nodes 1 and 6 stand below 0, 2 and 5 below 1, and 3 and 4 below 2.
 const DEEP: [Version; 4] = [
-    Version { sources: &["a = 1", "b = 1", "c = 1"], inputs: &[] },
-    Version { sources: &["a = 1", "b = 1", "d = 1"], inputs: &[] },
-    Version { sources: &["a = 1", "e = 1"], inputs: &[] },
-    Version { sources: &["f = 1"], inputs: &[] },
+    Version {
+        sources: &["a = 1", "b = 1", "c = 1"],
+        inputs: &[],
+    },
+    Version {
+        sources: &["a = 1", "b = 1", "d = 1"],
+        inputs: &[],
+    },
+    Version {
+        sources: &["a = 1", "e = 1"],
+        inputs: &[],
+    },
+    Version {
+        sources: &["f = 1"],
+        inputs: &[],
+    },
 ];
 
 #[test]

@@ -13,6 +13,7 @@ use std::process::Abort;
 use std::test::Fail;
 
 /// A version: the sources of its cells, and its inputs, which are integers.
+#[derive(Drop)]
 pub struct Version {
     pub sources: &'static [&'static str],
     pub inputs: &'static [(&'static str, i128)],
@@ -68,11 +69,7 @@ fn are_short(versions: &[Checked]) -> bool
         .all(|version| version.cells.as_slice().len() <= 64)
 }
 
-pub fn merged(
-    rt: &impl Abort,
-    alloc: Global,
-    versions: &[Checked],
-) -> Result<Forest, TreeFault> {
+pub fn merged(rt: &impl Abort, alloc: Global, versions: &[Checked]) -> Result<Forest, TreeFault> {
     assert!(rt; versions.len() <= 64);
     let short = are_short(versions);
     assert!(rt; short);
@@ -122,7 +119,11 @@ pub fn check_node(
     name: &str,
 ) {
     assert!(rt; 1 <= node && node <= forest.count(), "{name}");
-    assert_eq!(rt; forest.parent(NodeId(node)).0, parent, "{name}: node {node}");
+    assert_eq!(rt;
+        forest.parent(NodeId(node)).0,
+        parent,
+        "{name}: node {node}"
+    );
     assert_eq!(rt;
         forest.cell(NodeId(node)).source().as_str(),
         source,

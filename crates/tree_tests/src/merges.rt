@@ -6,6 +6,7 @@ use std::process::Abort;
 use std::test::Fail;
 
 /// Versions with their tree: the parent and the source of each node, and the end of each version.
+#[derive(Drop)]
 struct Row {
     name: &'static str,
     versions: &'static [Version],
@@ -14,23 +15,36 @@ struct Row {
 }
 
 const SUM: &str = "print(1 + 2)";
+
 const INPUT: &str = "def f():\n    return input(\"n\")";
+
 const CALL: &str = "print(f())";
+
 const LIST: &str = "x = [1]\ny = x";
+
 const DIVISION: &str = "print(1)\nx = 1 // 0\nprint(2)";
 
 const ROWS: [Row; 6] = [
     Row {
         name: "a version without cells",
-        versions: &[Version { sources: &[], inputs: &[] }],
+        versions: &[Version {
+            sources: &[],
+            inputs: &[],
+        }],
         nodes: &[],
         ends: &[0],
     },
     Row {
         name: "one cell twice",
         versions: &[
-            Version { sources: &[SUM], inputs: &[] },
-            Version { sources: &[SUM], inputs: &[] },
+            Version {
+                sources: &[SUM],
+                inputs: &[],
+            },
+            Version {
+                sources: &[SUM],
+                inputs: &[],
+            },
         ],
         nodes: &[(0, SUM)],
         ends: &[1, 1],
@@ -38,8 +52,14 @@ const ROWS: [Row; 6] = [
     Row {
         name: "one cell more",
         versions: &[
-            Version { sources: &[SUM], inputs: &[] },
-            Version { sources: &[SUM, "print(\"ok\")"], inputs: &[] },
+            Version {
+                sources: &[SUM],
+                inputs: &[],
+            },
+            Version {
+                sources: &[SUM, "print(\"ok\")"],
+                inputs: &[],
+            },
         ],
         nodes: &[(0, SUM), (1, "print(\"ok\")")],
         ends: &[1, 2],
@@ -47,8 +67,14 @@ const ROWS: [Row; 6] = [
     Row {
         name: "two second cells",
         versions: &[
-            Version { sources: &[LIST, "y.append(2)\nprint(x)"], inputs: &[] },
-            Version { sources: &[LIST, "print(y)"], inputs: &[] },
+            Version {
+                sources: &[LIST, "y.append(2)\nprint(x)"],
+                inputs: &[],
+            },
+            Version {
+                sources: &[LIST, "print(y)"],
+                inputs: &[],
+            },
         ],
         nodes: &[(0, LIST), (1, "y.append(2)\nprint(x)"), (1, "print(y)")],
         ends: &[2, 3],
@@ -56,9 +82,18 @@ const ROWS: [Row; 6] = [
     Row {
         name: "other values of a named input, and of another one",
         versions: &[
-            Version { sources: &[INPUT, CALL], inputs: &[("n", 1), ("m", 1)] },
-            Version { sources: &[INPUT, CALL], inputs: &[("n", 1), ("m", 2)] },
-            Version { sources: &[INPUT, CALL], inputs: &[("n", 2)] },
+            Version {
+                sources: &[INPUT, CALL],
+                inputs: &[("n", 1), ("m", 1)],
+            },
+            Version {
+                sources: &[INPUT, CALL],
+                inputs: &[("n", 1), ("m", 2)],
+            },
+            Version {
+                sources: &[INPUT, CALL],
+                inputs: &[("n", 2)],
+            },
         ],
         nodes: &[(0, INPUT), (1, CALL), (0, INPUT), (3, CALL)],
         ends: &[2, 2, 4],
@@ -66,8 +101,14 @@ const ROWS: [Row; 6] = [
     Row {
         name: "a cell that fails",
         versions: &[
-            Version { sources: &[DIVISION, "print(3)"], inputs: &[] },
-            Version { sources: &[DIVISION], inputs: &[] },
+            Version {
+                sources: &[DIVISION, "print(3)"],
+                inputs: &[],
+            },
+            Version {
+                sources: &[DIVISION],
+                inputs: &[],
+            },
         ],
         nodes: &[(0, DIVISION), (1, "print(3)")],
         ends: &[2, 1],
@@ -79,7 +120,12 @@ fn check_row(rt: &impl Abort, alloc: std::alloc::Global, row: &Row) -> Result<()
     let forest = merged(rt, alloc, versions.as_slice())?;
     assert_eq!(rt; forest.count() as usize, row.nodes.len(), "{}", row.name);
     let program = forest.program(alloc)?;
-    assert_eq!(rt; program.cells.as_slice().len(), row.nodes.len(), "{}", row.name);
+    assert_eq!(rt;
+        program.cells.as_slice().len(),
+        row.nodes.len(),
+        "{}",
+        row.name
+    );
     let mut number = 0u32;
     for (parent, source) in row.nodes {
         if number < 512 {
@@ -123,7 +169,11 @@ fn inputs_are_those_of_the_first_version(rt: HostRuntime) -> Result<(), Fail> {
 }
 
 /// Versions whose cells are all different.
-fn different(alloc: std::alloc::Global, versions: u32, cells: u32) -> Result<Vec<exec_tree::Checked>, Fail> {
+fn different(
+    alloc: std::alloc::Global,
+    versions: u32,
+    cells: u32,
+) -> Result<Vec<exec_tree::Checked>, Fail> {
     let mut all = Vec::new(alloc);
     for version in 0..versions {
         let mut own = Vec::new(alloc);
