@@ -6,7 +6,6 @@ use Rattle.std.proofs.lemmas.List.Elements.{filter-append}
 use Rattle.std.proofs.lemmas.Map.Views.{any-filter_same}
 use Rattle.exec_tree.specs.KeyLaws.{same_keys-Decides}
 use Rattle.exec_tree.specs.Prefixes.{Prefix, firsts, same_prefix, keys}
-use Rattle.exec_tree.specs.Keys.{same_keys}
 use Rattle.exec_tree.specs.Growths.{with_prefix, grown}
 
 -- one more item, unless it is the same as one before it

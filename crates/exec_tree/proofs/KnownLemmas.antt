@@ -1,7 +1,7 @@
 -- What nodes stand for.
-use Rattle.std.proofs.Common.{◌≡◌, ℕ, zero, suc, ◌+◌, ◌-◌, ◌<◌, ◌≤◌, List, [], ◌∷◌, ◌++◌, length, get_or, map, refl, sym, ap, ◌∙◌, subst, arith, append_assoc, length-append, add-one}
-use Rattle.std.proofs.lemmas.List.{get_or_append_left, get_or_push, get_or-map, map-append, length-map, length_push, get_or_default, append-nil}
-use Rattle.exec_tree.specs.Prefixes.{Prefix, keys, last_key}
+use Rattle.std.proofs.Common.{◌≡◌, ℕ, zero, suc, ◌+◌, ◌-◌, ◌<◌, ◌≤◌, List, [], ◌∷◌, ◌++◌, length, get_or, map, refl, sym, ap, ◌∙◌, arith, append_assoc, add-one}
+use Rattle.std.proofs.lemmas.List.{get_or_append_left, get_or_push, get_or-map, map-append, length-map, length_push, append-nil}
+use Rattle.exec_tree.specs.Prefixes.{Prefix, keys}
 use Rattle.exec_tree.specs.Forests.{parents_of}
 use Rattle.exec_tree.specs.Growths.{keys_at, prefix_after, known_after, known, node_key, key_at}
 use Rattle.exec_tree.specs.declared.node.Node.{Node}

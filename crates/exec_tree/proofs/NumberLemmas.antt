@@ -1,13 +1,12 @@
 -- From a forest that has grown to its definition.
-use Rattle.std.proofs.Common.{◌≡◌, ◌≢◌, ℕ, zero, suc, ◌+◌, ◌-◌, ◌<◌, ◌≤◌, Bool, true, false, cond, List, [], ◌∷◌, ◌++◌, length, get_or, map, fold, refl, sym, ap, ◌∙◌, subst, arith, add-one, append_assoc}
+use Rattle.std.proofs.Common.{◌≡◌, ℕ, zero, suc, ◌+◌, ◌<◌, ◌≤◌, Bool, true, false, cond, List, [], ◌∷◌, ◌++◌, length, get_or, map, refl, sym, ap, ◌∙◌, arith, add-one, append_assoc}
 use Rattle.std.specs.List.{All, flat_map, position_or_len, list_any}
-use Rattle.std.proofs.lemmas.Bool.{false≢true}
-use Rattle.std.proofs.lemmas.List.{get_or-map, length-map, same_lists, map-append, append-nil, get_or_default}
+use Rattle.std.proofs.lemmas.List.{get_or-map, length-map, same_lists, append-nil}
 use Rattle.std.proofs.lemmas.List.Elements.{All-head, All-tail}
 use Rattle.std.proofs.lemmas.List.Sums.{fold-append, position_or_len_is}
 use Rattle.exec_tree.specs.Keys.{Key, same_keys}
 use Rattle.exec_tree.specs.KeyLaws.{same_keys-Decides}
-use Rattle.exec_tree.specs.Prefixes.{Prefix, keys, keys_of, number_of, prefixes, prefixes_of, firsts, same_prefix}
+use Rattle.exec_tree.specs.Prefixes.{Prefix, keys, keys_of, number_of, prefixes, prefixes_of, same_prefix}
 use Rattle.exec_tree.specs.Forests.{parents_of, node_of}
 use Rattle.exec_tree.specs.Growths.{keys_at, known, prefix_after, with_prefix, grown, IsGrowth}
 use Rattle.exec_tree.specs.declared.node.Node.{Node}

@@ -1,9 +1,9 @@
 -- The tree of equal beginnings: one node for each distinct prefix of the versions.
-use Rattle.std.specs.Prelude.{ℕ, zero, suc, ◌≡◌, ◌<◌, ◌≤◌, ◌+◌, ◌-◌, ◌==◌, Bool, true, false, if◌then◌else◌, List, [], ◌∷◌, ◌++◌, map, length, filter, fold, find, get_or, set, replicate, unwrap_or, refl}
+use Rattle.std.specs.Prelude.{ℕ, zero, suc, ◌≤◌, ◌-◌, ◌==◌, Bool, true, false, if◌then◌else◌, List, [], ◌∷◌, ◌++◌, map, length, filter, fold, find, get_or, set, replicate, unwrap_or, refl}
 use Rattle.std.specs.List.{list_any, range_with_len}
 use Rattle.std.specs.Coded.{Coded, code_by, coded×, coded_ℕ, coded_bool, coded_list}
 use Rattle.star_syntax.specs.CellParts.{CellParts}
-use Rattle.exec_tree.specs.Keys.{InputMap, Key}
+use Rattle.exec_tree.specs.Keys.{InputMap}
 use Rattle.exec_tree.specs.Prefixes.{Prefix, keys_of, prefixes, number_of}
 use Rattle.exec_tree.specs.declared.checked.Checked.{Checked}
 use Rattle.exec_tree.specs.declared.node.Node.{Node}

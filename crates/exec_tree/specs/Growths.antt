@@ -3,7 +3,7 @@ use Rattle.std.specs.Prelude.{ℕ, zero, suc, ◌≡◌, ◌<◌, ◌≤◌, ◌
 use Rattle.std.specs.List.{list_any, range_with_len}
 use Rattle.std.specs.Str.{encode_utf8_all}
 use Rattle.std.specs.Hash.FoldHasher as folding
-use Rattle.exec_tree.specs.Keys.{InputMap, Key, key_of}
+use Rattle.exec_tree.specs.Keys.{Key, key_of}
 use Rattle.exec_tree.specs.Prefixes.{Prefix, keys, same_prefix}
 use Rattle.exec_tree.specs.Forests.{parents_of, children_in}
 use Rattle.exec_tree.specs.declared.node.Node.{Node}

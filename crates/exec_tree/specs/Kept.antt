@@ -1,7 +1,7 @@
 -- What a forest keeps beside its parts.
 use Rattle.std.specs.Prelude.{ℕ, ◌≡◌, ◌<◌, ◌≤◌, ◌+◌, Bool, List, [], map, length, fold, get_or, set, All}
 use Rattle.std.specs.List.{range_with_len}
-use Rattle.exec_tree.specs.Forests.{ForestParts, parents_of, children_in, children_of}
+use Rattle.exec_tree.specs.Forests.{parents_of, children_in, children_of}
 use Rattle.exec_tree.specs.declared.node.Node.{Node}
 
 -- nodes stand after their parents, each number from 0 on has its children, and ends are nodes or 0

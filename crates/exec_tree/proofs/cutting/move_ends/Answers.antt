@@ -1,5 +1,5 @@
 use Rattle.std.proofs.Common.{◌≤◌, length, sym, ap, ◌∙◌, arith}
-use Rattle.std.proofs.lemmas.List.Elements.{All-set, at_read}
+use Rattle.std.proofs.lemmas.List.Elements.{All-set}
 use Rattle.exec_tree.specs.Forests.{moved, parents_of}
 use Rattle.exec_tree.proofs.CutLemmas.{one_moved}
 use Rattle.exec_tree.proofs.cutting.move_ends.Goals as goal

@@ -1,4 +1,3 @@
-use Rattle.std.proofs.Common.{drop, take}
 use Rattle.exec_tree.proofs.StepLemmas.{IsMerging}
 use Rattle.exec_tree.proofs.merging.grown.Given as goal
 

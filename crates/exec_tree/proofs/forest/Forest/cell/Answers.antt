@@ -1,6 +1,6 @@
 use Rattle.std.proofs.Common.{◌≡◌, Some, subst, sym}
 use Rattle.star_syntax.specs.Cells.{numbered}
-use Rattle.exec_tree.specs.Forests.{ForestParts, IsNode, cells_of, inputs_of}
+use Rattle.exec_tree.specs.Forests.{ForestParts, IsNode, cells_of}
 use Rattle.exec_tree.specs.declared.node.Node.{Node}
 use Rattle.exec_tree.proofs.CutLemmas.{numbered_at}
 use Rattle.exec_tree.proofs.forest.Forest.cell.Goals as goal

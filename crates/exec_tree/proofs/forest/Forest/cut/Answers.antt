@@ -1,7 +1,7 @@
-use Rattle.std.proofs.Common.{◌≡◌, ◌≤◌, ℕ, ◌||◌, Bool, length, List, map, ap, subst, sym, ◌∙◌, arith, rules}
-use Rattle.std.specs.List.{All, list_any}
+use Rattle.std.proofs.Common.{◌≡◌, ◌≤◌, length, map, ap, subst, sym, ◌∙◌, arith}
+use Rattle.std.specs.List.{All}
 use Rattle.std.proofs.lemmas.List.{with_items_is}
-use Rattle.exec_tree.specs.Forests.{ForestParts, IsNode, parents, parents_of, parent_of, path, is_removed, is_among, marked, moved, cut}
+use Rattle.exec_tree.specs.Forests.{ForestParts, parents_of, is_removed, marked, moved, cut}
 use Rattle.exec_tree.specs.Kept.{cleared}
 use Rattle.exec_tree.proofs.CutLemmas.{AreWithin, few_cleared, kept_long, cut_kept, cut_view, cut_removes}
 use Rattle.exec_tree.proofs.forest.Forest.cut.Goals as goal

@@ -1,4 +1,4 @@
-use Rattle.std.proofs.Common.{◌<◌, ap, subst, sym, arith}
+use Rattle.std.proofs.Common.{◌<◌, subst, sym}
 use Rattle.exec_tree.specs.Forests.{ForestParts, IsNode}
 use Rattle.exec_tree.specs.declared.node.Node.{Node}
 use Rattle.exec_tree.proofs.CutLemmas.{parent_low}

@@ -1,4 +1,4 @@
-use Rattle.std.proofs.Common.{arith, rules, sym, ◌∙◌, ap}
+use Rattle.std.proofs.Common.{rules}
 use Rattle.exec_tree.proofs.GrowthLemmas.{children_long, added}
 use Rattle.exec_tree.proofs.growth.Growth.add.Goals as goal
 

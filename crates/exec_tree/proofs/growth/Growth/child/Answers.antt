@@ -1,4 +1,4 @@
-use Rattle.std.proofs.Common.{arith, rules, sym, ◌∙◌}
+use Rattle.std.proofs.Common.{rules, sym, ◌∙◌}
 use Rattle.exec_tree.specs.KeyLaws.{same_key-Decides}
 use Rattle.exec_tree.proofs.GrowthLemmas.{children_long, row_at, child_read, found_keys, none_in}
 use Rattle.exec_tree.proofs.growth.Growth.child.Goals as goal

@@ -1,7 +1,4 @@
-use Rattle.std.proofs.Common.{◌≡◌, ◌≤◌, ◌+◌, ◌++◌, length, map, drop}
-use Rattle.exec_tree.specs.Keys.{key_of}
-use Rattle.exec_tree.specs.Prefixes.{keys_of, prefixes_of, prefixes_below}
-use Rattle.exec_tree.specs.Growths.{known, keys_at, grown, IsGrowth}
+use Rattle.std.proofs.Common.{drop}
 use Rattle.exec_tree.proofs.StepLemmas.{IsUnderWay}
 use Rattle.exec_tree.proofs.growth.Growth.follow.Given as goal
 
