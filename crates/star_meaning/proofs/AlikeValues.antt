@@ -43,7 +43,7 @@ range_itself r =
     (both_and (int_eq r.stop r.stop) (int_eq r.step r.step) ((Decides-int_eq r.stop r.stop).1 refl) ((Decides-int_eq r.step r.step).1 refl))
 
 -- one layer of values that correspond
-like_rolled : (pairs : Pairs) (x : Value-F Value) (v : Value) → like pairs (roll-Value x) v ≡ like_layer pairs (map-Value Value (Value → Bool) (like pairs) x) (out-Value v)
+pub like_rolled : (pairs : Pairs) (x : Value-F Value) (v : Value) → like pairs (roll-Value x) v ≡ like_layer pairs (map-Value Value (Value → Bool) (like pairs) x) (out-Value v)
 unfolding like
 like_rolled pairs x v = ap (λ (test : Value → Bool). test v) (fold-roll-Value (Value → Bool) (λ l other. like_layer pairs l (out-Value other)) x)
 

@@ -39,3 +39,4 @@ pub mod MovedWorld
 pub mod AlikeNumbers
 pub mod AlikeValues
 pub mod AlikeLaw
+pub mod SnapshotLemmas

@@ -21,5 +21,5 @@ pub use laws::{
 pub use ran::{End, Ran};
 pub use tables::{
     arithmetic, builtin_functions, cells, choices, comparisons, dict_methods, failures,
-    list_methods, long_cells, parts, statements, text_methods, turns,
+    list_methods, long_cells, parts, snapshots, statements, text_methods, turns,
 };
