@@ -27,11 +27,11 @@ unfolding builtin_of builtin_name
 named builtin.Abs = refl
 named _ = refl
 
-builtins_same : (a b : Builtin) → IsTrue (same_builtin a b) → a ≡ b
+pub builtins_same : (a b : Builtin) → IsTrue (same_builtin a b) → a ≡ b
 builtins_same a b h =
     let one : Some a ≡ Some b = sym (named a) ∙ ap builtin_of ((bytes_eq-Decides (builtin_name a) (builtin_name b)).0 h) ∙ named b in cc
 
-ranges_same : (r q : Range) → IsTrue (like_range r q) → r ≡ q
+pub ranges_same : (r q : Range) → IsTrue (like_range r q) → r ≡ q
 ranges_same r q h =
     let both = and_both (int_eq r.start q.start) _ h in
     let rest = and_both (int_eq r.stop q.stop) (int_eq r.step q.step) both.1 in

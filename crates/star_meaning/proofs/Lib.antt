@@ -40,3 +40,4 @@ pub mod AlikeNumbers
 pub mod AlikeValues
 pub mod AlikeLaw
 pub mod SnapshotLemmas
+pub mod AlikeOrder

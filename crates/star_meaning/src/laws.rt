@@ -76,3 +76,9 @@ pub fn alike_states_run_alike()
     ensures shown { laws.AlikeStatesRunAlike }
     ensures machines { laws.AlikeMachinesRunAlike }
 {}
+
+/// Trial.
+#[tactic(auto, using(crate::proofs::AlikeOrder::alike_over, crate::proofs::RenamedCells::shown_grows))]
+pub fn trial()
+    ensures { laws.FunctionsStay }
+{}
