@@ -37,7 +37,7 @@ ranges_same r q h =
     let rest = and_both (int_eq r.stop q.stop) (int_eq r.step q.step) both.1 in
     λ j. record { start = (Decides-int_eq r.start q.start).0 both.0 j; stop = (Decides-int_eq r.stop q.stop).0 rest.0 j; step = (Decides-int_eq r.step q.step).0 rest.1 j }
 
-range_itself : (r : Range) → IsTrue (like_range r r)
+pub range_itself : (r : Range) → IsTrue (like_range r r)
 range_itself r =
     both_and (int_eq r.start r.start) _ ((Decides-int_eq r.start r.start).1 refl)
     (both_and (int_eq r.stop r.stop) (int_eq r.step r.step) ((Decides-int_eq r.stop r.stop).1 refl) ((Decides-int_eq r.step r.step).1 refl))

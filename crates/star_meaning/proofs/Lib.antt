@@ -41,3 +41,4 @@ pub mod AlikeValues
 pub mod AlikeLaw
 pub mod SnapshotLemmas
 pub mod AlikeOrder
+pub mod AlikeTurned

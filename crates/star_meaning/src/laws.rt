@@ -78,7 +78,7 @@ pub fn alike_states_run_alike()
 {}
 
 /// Trial.
-#[tactic(auto, using(crate::proofs::AlikeOrder::alike_over, crate::proofs::RenamedCells::shown_grows))]
+#[tactic(auto, using(crate::proofs::AlikeTurned::alike_turned, crate::proofs::RenamedCells::shown_grows))]
 pub fn trial()
     ensures { laws.FunctionsStay }
 {}
