@@ -1,10 +1,9 @@
 -- To be alike goes both ways, and from one state over a second to a third.
-use Rattle.std.proofs.Common.{◌≡◌, ◌≤◌, ◌<◌, ◌+◌, ℕ, ℤ, zero, suc, List, [], ◌∷◌, map, length, Bool, true, false, IsTrue, refl, sym, ap, arith, subst, ◌∙◌}
+use Rattle.std.proofs.Common.{◌≡◌, ℕ, ℤ, List, [], ◌∷◌, map, Bool, true, false, IsTrue, refl, sym, ap, subst, ◌∙◌}
 use Rattle.std.proofs.lemmas.Bool.Decides.{Decides-eqb, Decides-int_eq}
-use Rattle.std.proofs.lemmas.List.{length-map}
 use Rattle.std.proofs.lemmas.Slice.Eq.{bytes_eq-Decides}
 use Rattle.std.specs.Cmp.{booleans_Decides}
-use Rattle.std.specs.Prelude.{◌==◌, ◌&&◌, ◌||◌, not, if◌then◌else◌, Option, Some, None, bytes_eq}
+use Rattle.std.specs.Prelude.{◌==◌, ◌&&◌, not, if◌then◌else◌, Option, Some, None, bytes_eq}
 use Rattle.star_value.specs.declared.builtin.Builtin.{Builtin}
 use Rattle.star_value.specs.declared.key.Key.{Key}
 use Rattle.star_value.specs.declared.range.Range.{Range}
@@ -14,9 +13,8 @@ use Rattle.star_value.specs.KeyLaws.{same_key-Decides}
 use Rattle.star_value.specs.KeyOrder.{all_hold, same_key}
 use Rattle.star_meaning.specs.State.{Object, AList, ADict, AFunction, State, object}
 use Rattle.star_meaning.specs.Values.{has}
-use Rattle.star_meaning.specs.Alike.{Alike, AlikeMachines, IsAlike, LikeFound, LikeObjects, Pairs, are_apart, is_pair, like, like_global, like_items, like_layer, like_pair, like_pairs}
-use Rattle.star_meaning.specs.Validity.{MachineState}
-use Rattle.star_meaning.proofs.AlikeNumbers.{and_both, both_and, firsts, has_first, has_second, in_or_first, in_or_second, itself, not_both, not_so, not_true, or_either, pair_first, places, same_number, seconds}
+use Rattle.star_meaning.specs.Alike.{IsAlike, LikeFound, LikeObjects, Pairs, are_apart, is_pair, like, like_global, like_items, like_layer, like_pair, like_pairs}
+use Rattle.star_meaning.proofs.AlikeNumbers.{and_both, both_and, firsts, has_first, has_second, in_or_first, in_or_second, itself, not_both, not_so, not_true, or_either, pair_first, same_number, seconds}
 use Rattle.star_meaning.proofs.AlikeValues.{builtins_same, like_rolled, ranges_same}
 
 -- ---- a relation between layers, by its kinds
@@ -217,9 +215,11 @@ over_number (pair ∷ p) q a c h = by (partner q pair.1) refl h (λ k. over_numb
     by None e k rest = later (rest k)
     by (Some d) e k rest =
         or_either ((pair.0 == a) && (d == c)) (is_pair (joined p q) a c) ((b : ℕ) × IsTrue (is_pair (pair ∷ p) a b) × IsTrue (is_pair q b c))
-        (λ l. let both = and_both (pair.0 == a) (d == c) l in
-        (pair.1, in_or_first ((pair.0 == a) && (pair.1 == pair.1)) (is_pair p a pair.1) (both_and (pair.0 == a) (pair.1 == pair.1) both.0 (itself pair.1)),
-        partner_is q pair.1 c (e ∙ ap Some (same_number d c both.1))))
+        (λ l. let both = and_both (pair.0 == a) (d == c) l in (
+          pair.1,
+          in_or_first ((pair.0 == a) && (pair.1 == pair.1)) (is_pair p a pair.1) (both_and (pair.0 == a) (pair.1 == pair.1) both.0 (itself pair.1)),
+          partner_is q pair.1 c (e ∙ ap Some (same_number d c both.1)),
+        ))
         (λ l. later (rest l)) k
 
 over_pair : (p q : Pairs) → IsTrue (are_apart (firsts q)) → (a b c : ℕ) → IsTrue (is_pair p a b) → IsTrue (is_pair q b c) → IsTrue (is_pair (joined p q) a c)
@@ -244,7 +244,7 @@ pair_second (pair ∷ pairs) a b h =
     (λ k. in_or_second (pair.1 == b) (has (seconds pairs) b) (pair_second pairs a b k)) h
 
 -- no two first numbers have one second number
-one_first : (q : Pairs) → IsTrue (are_apart (seconds q)) → (a b c : ℕ) → IsTrue (is_pair q a c) → IsTrue (is_pair q b c) → a ≡ b
+pub one_first : (q : Pairs) → IsTrue (are_apart (seconds q)) → (a b c : ℕ) → IsTrue (is_pair q a c) → IsTrue (is_pair q b c) → a ≡ b
 one_first [] o a b c h k = absurd (not_true h)
 one_first (pair ∷ q) o a b c h k =
     let apart = and_both (not (has (seconds q) pair.1)) (are_apart (seconds q)) o in

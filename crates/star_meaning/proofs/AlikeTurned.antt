@@ -1,12 +1,11 @@
 -- To be alike goes both ways, and a state whose references name its objects is alike to itself.
-use Rattle.std.proofs.Common.{◌≡◌, ◌<◌, ℕ, zero, suc, List, [], ◌∷◌, map, length, Bool, true, false, IsTrue, refl, sym, ap, arith, subst, ◌∙◌}
+use Rattle.std.proofs.Common.{◌≡◌, ◌<◌, ℕ, zero, suc, List, [], ◌∷◌, map, length, Bool, IsTrue, refl, sym, ap, arith, subst, ◌∙◌}
 use Rattle.std.proofs.lemmas.Bool.Decides.{Decides-int_eq}
 use Rattle.std.proofs.lemmas.Option.{slice_get_within}
 use Rattle.std.proofs.lemmas.Slice.Eq.{bytes_eq-Decides}
 use Rattle.std.specs.Cmp.{booleans_Decides}
 use Rattle.std.specs.List.{list_all}
 use Rattle.std.specs.Prelude.{◌==◌, ◌&&◌, Option, Some, None, bytes_eq, slice_get}
-use Rattle.star_value.specs.declared.builtin.Builtin.{Builtin}
 use Rattle.star_value.specs.declared.key.Key.{Key}
 use Rattle.star_value.specs.declared.value.Value.{Value, fold-roll-Value, ind-Value, map-Value, out-Value, out-roll-Value, roll-Value, roll-out-Value}
 use Rattle.star_value.specs.declared.value.Value.TheOpen.{Value-F}
@@ -14,10 +13,12 @@ use Rattle.star_value.specs.KeyLaws.{same_key-Decides}
 use Rattle.star_value.specs.KeyOrder.{all_hold, same_key}
 use Rattle.star_meaning.specs.State.{Object, AList, ADict, AFunction, State, object}
 use Rattle.star_meaning.specs.Values.{builtin_name}
-use Rattle.star_meaning.specs.Alike.{IsAlike, LikeFound, LikeObjects, Pairs, are_apart, is_pair, like, like_global, like_items, like_layer, like_pair, like_pairs}
-use Rattle.star_meaning.specs.Validity.{all_in, all_in_object, all_in_pair, fits, fits_step, is_dict, is_function, is_list}
+use Rattle.star_meaning.specs.Alike.{AlikeMachines, IsAlike, LikeFound, LikeObjects, Pairs, are_apart, is_pair, like, like_global, like_items, like_layer, like_pair, like_pairs}
+use Rattle.star_meaning.specs.Laws.{AlikeIsAnEquivalence}
+use Rattle.star_meaning.specs.Validity.{IsMachine, MachineState, all_in, all_in_object, all_in_pair, fits, fits_step, is_dict, is_function, is_list}
 use Rattle.star_meaning.proofs.AlikeNumbers.{and_both, below_is, both_and, firsts, firsts_apart, in_or_first, in_or_second, is_below, not_true, or_either, pairs_below, seconds, seconds_apart}
-use Rattle.star_meaning.proofs.AlikeValues.{builtins_same, like_rolled, range_itself, ranges_same}
+use Rattle.star_meaning.proofs.AlikeOrder.{alike_over, joined}
+use Rattle.star_meaning.proofs.AlikeValues.{like_rolled, range_itself, ranges_same}
 
 opened : (pairs : Pairs) (x y : Value) → like pairs x y ≡ like_layer pairs (map-Value Value (Value → Bool) (like pairs) (out-Value x)) (out-Value y)
 opened pairs x y = ap (λ v. like pairs v y) (sym (roll-out-Value x)) ∙ like_rolled pairs (out-Value x) y
@@ -225,3 +226,17 @@ module _ {C : Type 0} (s : State C) where
             let n = below_is (λ n. n) (λ n. n) (length s.objects) a b k in
             subst (λ x. LikeFound own (slice_get s.objects x) (slice_get s.objects b)) n.2 (subst (λ x. LikeFound own (slice_get s.objects n.0) (slice_get s.objects x)) n.3 (found_own s.objects n.0 n.1 both.1));
       }
+
+-- ---- machine states
+
+pub machines_turned : (m n : MachineState) → AlikeMachines m n → AlikeMachines n m
+machines_turned m n h = record { ran = sym h.ran; state = (turned h.state.0, alike_turned h.state.0 m.state n.state h.state.1) }
+
+pub machines_over : (m n o : MachineState) → AlikeMachines m n → AlikeMachines n o → AlikeMachines m o
+machines_over m n o h k = record { ran = h.ran ∙ k.ran; state = (joined h.state.0 k.state.0, alike_over h.state.0 k.state.0 m.state n.state o.state h.state.1 k.state.1) }
+
+machine_itself : (m : MachineState) → IsMachine m → AlikeMachines m m
+machine_itself m h = record { ran = refl; state = (own m.state, alike_itself m.state h.references) }
+
+pub alike_is_an_equivalence : AlikeIsAnEquivalence
+alike_is_an_equivalence = record { itself = machine_itself; both_ways = machines_turned; over = machines_over }

@@ -42,3 +42,4 @@ pub mod AlikeLaw
 pub mod SnapshotLemmas
 pub mod AlikeOrder
 pub mod AlikeTurned
+pub mod Canonical

@@ -1,10 +1,7 @@
 -- The bytes and the references of single values, and which single values correspond.
-use Rattle.std.proofs.Common.{◌≡◌, ℕ, ℤ, List, [], ◌∷◌, ◌++◌, refl, sym, ap, ◌∙◌}
-use Rattle.std.specs.Ordering.{int_eq}
-use Rattle.star_value.specs.declared.value.Value.{Value, fold-roll-Value, out-Value, out-roll-Value}
-use Rattle.star_value.specs.declared.value.Value.TheOpen.{Value-F}
+use Rattle.std.proofs.Common.{◌≡◌, ℕ, ℤ, List, [], ◌∷◌, refl}
+use Rattle.star_value.specs.declared.value.Value.{fold-roll-Value}
 use Rattle.star_value.specs.declared.value.Value.TheVariants as value
-use Rattle.star_meaning.specs.Alike.{Pairs, is_pair, like, like_layer}
 use Rattle.star_meaning.specs.Snapshot.{id_bytes, integer_bytes, references, references_step, value_bytes, value_step}
 
 pub bytes_int : (z : ℤ) → value_bytes (value.Int z) ≡ 3 ∷ integer_bytes z

@@ -1,13 +1,12 @@
 -- The rows hold by evaluation.
-use Rattle.std.proofs.Common.{◌≡◌, ℕ, zero, suc, ℤ, pos, List, [], ◌∷◌, true, false, IsTrue, refl, sym, ap, arith, subst, ◌∙◌}
-use Rattle.std.specs.Prelude.{◌&&◌, ◌==◌, ◌||◌, Option, Some, None}
-use Rattle.star_value.specs.KeyOrder.{all_hold}
+use Rattle.std.proofs.Common.{◌≡◌, ℕ, ℤ, [], ◌∷◌, true, false, IsTrue, refl, sym, ap, arith, subst, ◌∙◌}
+use Rattle.std.specs.Prelude.{◌&&◌, ◌==◌, ◌||◌}
 use Rattle.star_value.specs.declared.value.Value.TheVariants as value
-use Rattle.star_value.specs.declared.value.Value.{Value, fold-roll-Value, out-Value, out-roll-Value}
+use Rattle.star_value.specs.declared.value.Value.{out-Value, out-roll-Value}
 use Rattle.star_value.specs.declared.value.Value.TheOpen.{Value-F}
-use Rattle.star_meaning.specs.Alike.{Alike, IsAlike, LikeFound, Pairs, is_pair, like, like_global, like_layer}
+use Rattle.star_meaning.specs.Alike.{Alike, LikeFound, Pairs, is_pair, like, like_layer}
 use Rattle.star_meaning.specs.State.{object}
-use Rattle.star_meaning.specs.Snapshot.{is_canonical, state_bytes}
+use Rattle.star_meaning.specs.Snapshot.{state_bytes}
 use Rattle.star_meaning.specs.Rows.Snapshots.{Snapshots, one_list, two_lists, x_first, y_first}
 use Rattle.star_meaning.proofs.Equations.{layers}
 use Rattle.star_meaning.proofs.Opened.{evaluation}

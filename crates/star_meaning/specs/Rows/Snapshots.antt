@@ -1,5 +1,5 @@
 -- Machine states that small cells reach: which of them are alike, and their bytes.
-use Rattle.std.specs.Prelude.{◌≡◌, false, [], ◌∷◌, List, ℕ, pos, codes, length, IsTrue}
+use Rattle.std.specs.Prelude.{◌≡◌, false, [], ◌∷◌, ℕ, pos, codes, length, IsTrue}
 use Rattle.star_syntax.specs.declared.expression.Expr.TheVariants as e
 use Rattle.star_syntax.specs.declared.statement.SmallKind.TheVariants as small
 use Rattle.star_value.specs.declared.value.Value.TheVariants as value
