@@ -67,7 +67,7 @@ some_within (x ∷ xs) zero l h = none-some x (sym h)
 some_within (x ∷ xs) (suc n) l h = some_within xs n (omega arith) h
 
 module _ {C : Type 0} (pairs : Pairs) (s t : State C) where
-  found_below : (a b : ℕ) (o p : Option (Object C)) → object s a ≡ o → object t b ≡ p → LikeFound pairs o p → (a < count s) × (b < count t)
+  pub found_below : (a b : ℕ) (o p : Option (Object C)) → object s a ≡ o → object t b ≡ p → LikeFound pairs o p → (a < count s) × (b < count t)
   unfolding object
   found_below a b (Some o) (Some p) e f h = (slice_get_within s.objects a o e, slice_get_within t.objects b p f)
   found_below a b None None e f h = absurd h

@@ -27,11 +27,11 @@ pub both_and : (b c : Bool) → IsTrue b → IsTrue c → IsTrue (b && c)
 both_and true c h k = k
 both_and false c h k = absurd (not_true h)
 
-not_both : (b : Bool) → IsTrue (not b) → IsTrue b → ⊥
+pub not_both : (b : Bool) → IsTrue (not b) → IsTrue b → ⊥
 not_both true h k = not_true h
 not_both false h k = not_true k
 
-in_or_first : (b c : Bool) → IsTrue b → IsTrue (b || c)
+pub in_or_first : (b c : Bool) → IsTrue b → IsTrue (b || c)
 in_or_first true c h = refl
 in_or_first false c h = absurd (not_true h)
 
@@ -165,7 +165,7 @@ has_second (p ∷ pairs) b h =
     (λ k. (p.0, in_or_first ((p.0 == p.0) && (p.1 == b)) (is_pair pairs p.0 b) (both_and (p.0 == p.0) (p.1 == b) (itself p.0) k)))
     (λ k. let rest = has_second pairs b k in (rest.0, in_or_second ((p.0 == rest.0) && (p.1 == b)) (is_pair pairs rest.0 b) rest.1)) h
 
-pair_first : (pairs : Pairs) (a b : ℕ) → IsTrue (is_pair pairs a b) → IsTrue (has (firsts pairs) a)
+pub pair_first : (pairs : Pairs) (a b : ℕ) → IsTrue (is_pair pairs a b) → IsTrue (has (firsts pairs) a)
 pair_first [] a b h = h
 pair_first (p ∷ pairs) a b h =
     or_either ((p.0 == a) && (p.1 == b)) (is_pair pairs a b) (IsTrue (has (firsts (p ∷ pairs)) a)) (λ k. in_or_first (p.0 == a) (has (firsts pairs) a) (and_both (p.0 == a) (p.1 == b) k).0)
@@ -238,7 +238,7 @@ second_below f g inj zero n l h = not_true h
 second_below f g inj (suc count) n l h =
     or_either (g count == g n) (has (seconds (pairs_below f g count)) (g n)) ⊥ (λ k. let same = inj count n (same_number (g count) (g n) k) in omega (arith, same)) (λ k. second_below f g inj count n (omega arith) k) h
 
-not_so : (b : Bool) → (IsTrue b → ⊥) → IsTrue (not b)
+pub not_so : (b : Bool) → (IsTrue b → ⊥) → IsTrue (not b)
 not_so true h = absurd (h refl)
 not_so false h = refl
 

@@ -27,23 +27,23 @@ unfolding builtin_of builtin_name
 named builtin.Abs = refl
 named _ = refl
 
-builtins_same : (a b : Builtin) → IsTrue (same_builtin a b) → a ≡ b
+pub builtins_same : (a b : Builtin) → IsTrue (same_builtin a b) → a ≡ b
 builtins_same a b h =
     let one : Some a ≡ Some b = sym (named a) ∙ ap builtin_of ((bytes_eq-Decides (builtin_name a) (builtin_name b)).0 h) ∙ named b in cc
 
-ranges_same : (r q : Range) → IsTrue (like_range r q) → r ≡ q
+pub ranges_same : (r q : Range) → IsTrue (like_range r q) → r ≡ q
 ranges_same r q h =
     let both = and_both (int_eq r.start q.start) _ h in
     let rest = and_both (int_eq r.stop q.stop) (int_eq r.step q.step) both.1 in
     λ j. record { start = (Decides-int_eq r.start q.start).0 both.0 j; stop = (Decides-int_eq r.stop q.stop).0 rest.0 j; step = (Decides-int_eq r.step q.step).0 rest.1 j }
 
-range_itself : (r : Range) → IsTrue (like_range r r)
+pub range_itself : (r : Range) → IsTrue (like_range r r)
 range_itself r =
     both_and (int_eq r.start r.start) _ ((Decides-int_eq r.start r.start).1 refl)
     (both_and (int_eq r.stop r.stop) (int_eq r.step r.step) ((Decides-int_eq r.stop r.stop).1 refl) ((Decides-int_eq r.step r.step).1 refl))
 
 -- one layer of values that correspond
-like_rolled : (pairs : Pairs) (x : Value-F Value) (v : Value) → like pairs (roll-Value x) v ≡ like_layer pairs (map-Value Value (Value → Bool) (like pairs) x) (out-Value v)
+pub like_rolled : (pairs : Pairs) (x : Value-F Value) (v : Value) → like pairs (roll-Value x) v ≡ like_layer pairs (map-Value Value (Value → Bool) (like pairs) x) (out-Value v)
 unfolding like
 like_rolled pairs x v = ap (λ (test : Value → Bool). test v) (fold-roll-Value (Value → Bool) (λ l other. like_layer pairs l (out-Value other)) x)
 

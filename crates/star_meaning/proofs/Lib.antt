@@ -39,3 +39,7 @@ pub mod MovedWorld
 pub mod AlikeNumbers
 pub mod AlikeValues
 pub mod AlikeLaw
+pub mod SnapshotLemmas
+pub mod AlikeOrder
+pub mod AlikeTurned
+pub mod Canonical

@@ -17,5 +17,6 @@ pub mod Growing
 pub mod Reading
 pub mod Renaming
 pub mod Alike
+pub mod Snapshot
 pub mod Laws
 pub mod Agreement
