@@ -2,6 +2,7 @@
 
 mod conversions;
 mod printing;
+mod quantifiers;
 mod ranges;
 mod rows;
 mod sequences;
