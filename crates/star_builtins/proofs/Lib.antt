@@ -31,7 +31,11 @@ pub mod ChangedLemmas
 pub mod KeyLemmas
 mod NameLemmas
 mod RowGiven
+mod PairWalks
+mod PutLemmas
 mod MethodLemmas
 mod JoinLemmas
 mod GivenTexts
 mod TextLemmas
+mod TableLemmas
+mod DictLemmas
