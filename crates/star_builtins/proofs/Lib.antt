@@ -39,3 +39,13 @@ mod Sequences
 mod CountLemmas
 mod Rowed
 mod Columns
+mod NameLemmas
+mod RowGiven
+mod PairWalks
+mod PutLemmas
+mod MethodLemmas
+mod JoinLemmas
+mod GivenTexts
+mod TextLemmas
+mod TableLemmas
+mod DictLemmas

@@ -1,6 +1,8 @@
 -- Parts of the rows of the methods: what a method does with the arguments that it takes.
-use Rattle.std.specs.Prelude.{ℕ, List, [], ◌∷◌, ◌++◌, length, Option, unwrap_or, ℤ, pos, negsuc}
+use Rattle.std.specs.Prelude.{ℕ, List, [], ◌∷◌, ◌++◌, length, Option, Some, None, unwrap_or, Result, Ok, Err, ℤ, pos, negsuc}
 use Rattle.std.specs.List.{insert, remove, flat_map}
+use Rattle.star_value.specs.declared.failure.Failure.{Failure}
+use Rattle.star_value.specs.declared.failure.Failure.TheVariants as failure
 use Rattle.star_value.specs.declared.key.Key.{Key}
 use Rattle.star_value.specs.declared.value.Value.{Value, out-Value}
 use Rattle.star_value.specs.declared.value.Value.TheVariants as value
@@ -53,6 +55,12 @@ abbrev pub index_value : {C : Type 0} → ℕ → Value → Action C Value
 index_value id x = spec.place_in id x >>= (λ place. pure (value.Int (pos place)))
 
 -- ---- dicts
+
+-- whether a key is there, or a value is given in its place
+abbrev pub found_check : Option Value → Option Value → Result (Unit {0}) Failure
+found_check (Some d) found = Ok tt
+found_check None (Some v) = Ok tt
+found_check None None = Err failure.NoKey
 
 abbrev pub get_value : {C : Type 0} → ℕ → Value → Option Value → Action C Value
 get_value id k d = do
