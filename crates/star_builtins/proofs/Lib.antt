@@ -30,5 +30,6 @@ mod TupleLemmas
 pub mod ChangedLemmas
 pub mod KeyLemmas
 mod Sequences
+mod Keyed
 mod Rowed
 mod Columns
