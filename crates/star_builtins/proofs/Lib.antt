@@ -37,6 +37,7 @@ mod RowGiven
 mod MethodLemmas
 mod Sequences
 mod CountLemmas
+mod Keyed
 mod Rowed
 mod Columns
 mod NameLemmas

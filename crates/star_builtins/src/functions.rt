@@ -1,6 +1,7 @@
 //! The built-in functions: each file has the functions of one kind.
 
 mod conversions;
+mod pairing;
 mod printing;
 mod quantifiers;
 mod ranges;
