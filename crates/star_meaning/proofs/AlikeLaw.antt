@@ -61,7 +61,7 @@ module _ {C : Type 0} (mv : Moving) (st : Setting C) where
       let o = statements_from st (call_to st 32) 0 tree.statements (start u (allowance - 1)) in
       let more = steps.grows (start u (allowance - 1)) in omega (arith, ran_count allowance o, more)
 
-some_within : {A : Type 0} (xs : List A) (n : ℕ) → n < length xs → slice_get xs n ≡ None → ⊥
+pub some_within : {A : Type 0} (xs : List A) (n : ℕ) → n < length xs → slice_get xs n ≡ None → ⊥
 some_within [] n l h = omega arith
 some_within (x ∷ xs) zero l h = none-some x (sym h)
 some_within (x ∷ xs) (suc n) l h = some_within xs n (omega arith) h
@@ -78,21 +78,21 @@ module _ {C : Type 0} (pairs : Pairs) (s t : State C) where
 
 module _ {C : Type 0} (pairs : Pairs) (s : State C) where
   -- numbers are places of the first state's
-  abbrev places_of : Moving
+  abbrev pub places_of : Moving
   places_of = back (firsts pairs)
 
-  abbrev put : Option (Object C) → Object C
+  abbrev pub put : Option (Object C) → Object C
   put None = AList []
   put (Some o) = object_to places_of o
 
   -- the first state's globals, and the objects of the pairs
-  abbrev common : State C
+  abbrev pub common : State C
   common = record { globals = map (entry_to places_of) s.globals; objects = map (λ pair. put (object s pair.0)) pairs }
 
-  common_count : count common ≡ length pairs
+  pub common_count : count common ≡ length pairs
   common_count = length-map pairs (λ pair. put (object s pair.0))
 
-  objects_held : (mv : Moving) (x : State C) (pick : ℕ × ℕ → ℕ) (f : ℕ → ℕ) → ((n : ℕ) → count x ≤ f n) → (ps : Pairs)
+  pub objects_held : (mv : Moving) (x : State C) (pick : ℕ × ℕ → ℕ) (f : ℕ → ℕ) → ((n : ℕ) → count x ≤ f n) → (ps : Pairs)
       → ((p : ℕ × ℕ) → IsTrue (is_pair ps p.0 p.1) → object x (pick p) ≡ Some (object_to mv (put (object s p.0)))) → (id : ℕ)
       → object x (at_or f (map pick ps) id) ≡ option_map (object_to mv) (slice_get (map (λ pair. put (object s pair.0)) ps) id)
   unfolding object
