@@ -1,13 +1,13 @@
 -- Frames that correspond are those of one frame over places, and the other way round.
-use Rattle.std.proofs.Common.{◌≡◌, ℕ, List, [], ◌∷◌, map, Bool, true, false, IsTrue, refl, sym, ap, subst, ◌∙◌}
+use Rattle.std.proofs.Common.{◌≡◌, ℕ, List, [], ◌∷◌, map, IsTrue, refl, ap}
 use Rattle.std.proofs.lemmas.Slice.Eq.{bytes_eq-Decides}
-use Rattle.std.specs.Prelude.{◌&&◌, Option, Some, None, option_map, bytes_eq}
+use Rattle.std.specs.Prelude.{Option, Some, None, option_map, bytes_eq}
 use Rattle.star_value.specs.declared.value.Value.{Value}
 use Rattle.star_value.specs.KeyOrder.{all_hold}
 use Rattle.star_meaning.specs.declared.flow.Flow.{Flow}
 use Rattle.star_meaning.specs.declared.flow.Flow.TheVariants as flow
 use Rattle.star_meaning.specs.World.{Block, Frame}
-use Rattle.star_meaning.specs.Alike.{LikeFrames, Pairs, is_pair, like, like_block, like_bound, like_flow, like_slot}
+use Rattle.star_meaning.specs.Alike.{LikeFrames, Pairs, is_pair, like_block, like_bound, like_flow, like_slot}
 use Rattle.star_meaning.proofs.MovedValues.{Moving, moved}
 use Rattle.star_meaning.proofs.MovedWorld.{block_to, frame_to, slot_to}
 use Rattle.star_meaning.proofs.MovedStatements.{flow_to}

@@ -1,5 +1,5 @@
 -- The parts of a cell run alike: expressions, targets, statements, bodies and calls.
-use Rattle.std.proofs.Common.{◌≡◌, ◌≤◌, ℕ, List, [], ◌∷◌, map, Bool, IsTrue, arith, refl, sym, ap, subst, ◌∙◌}
+use Rattle.std.proofs.Common.{◌≤◌, ℕ, List, map, Bool, IsTrue, arith, subst}
 use Rattle.std.specs.Prelude.{Option}
 use Rattle.star_syntax.specs.declared.expression.Expr.{Expr}
 use Rattle.star_syntax.specs.declared.statement.Block.{Block}
@@ -7,7 +7,6 @@ use Rattle.star_syntax.specs.declared.statement.Statement.{Statement}
 use Rattle.star_syntax.specs.CellParts.{CellParts}
 use Rattle.star_value.specs.declared.value.Value.{Value}
 use Rattle.star_value.specs.KeyOrder.{all_hold}
-use Rattle.star_meaning.specs.declared.flow.Flow.{Flow}
 use Rattle.star_meaning.specs.Builtins.{ByName}
 use Rattle.star_meaning.specs.World.{World}
 use Rattle.star_meaning.specs.Expressions.{Callee, Setting, meant}

@@ -1,17 +1,15 @@
 -- Steps of expressions and statements end alike from worlds that are alike.
-use Rattle.std.proofs.Common.{◌≡◌, ◌≤◌, ◌<◌, ◌+◌, ◌-◌, ℕ, suc, List, [], ◌∷◌, map, length, Bool, true, false, IsTrue, refl, sym, ap, arith, subst, ◌∙◌}
+use Rattle.std.proofs.Common.{◌≡◌, ◌≤◌, ◌<◌, ◌+◌, ◌-◌, ℕ, suc, map, length, IsTrue, refl, sym, ap, arith, subst, ◌∙◌}
 use Rattle.std.proofs.lemmas.List.{length-map}
 use Rattle.std.specs.Prelude.{Option, Some, None, option_map}
-use Rattle.star_value.specs.declared.failure.Failure.{Failure}
-use Rattle.star_value.specs.declared.value.Value.{Value}
 use Rattle.star_value.specs.KeyOrder.{all_hold}
 use Rattle.star_meaning.specs.State.{Object, State, object}
 use Rattle.star_meaning.specs.Steps.{Outcome, Went, Failed, Steps}
-use Rattle.star_meaning.specs.World.{Frame, World}
+use Rattle.star_meaning.specs.World.{World}
 use Rattle.star_meaning.specs.Alike.{EndAlike, Extends, IsAlike, IsAlikeWorld, LikeFound, LikeOutcomes, Pairs, is_pair, like_global}
 use Rattle.star_meaning.specs.Growing.{reached}
 use Rattle.star_meaning.proofs.MovedValues.{Moving, entry_to, object_to}
-use Rattle.star_meaning.proofs.Moved.{Lands, Within, count, outcome_to, reaches}
+use Rattle.star_meaning.proofs.Moved.{Lands, Within, count, outcome_to}
 use Rattle.star_meaning.proofs.MovedWorld.{Goes, frame_to, of_world}
 use Rattle.star_meaning.proofs.AlikeFrames.{frame_placed, frame_reach}
 use Rattle.star_meaning.proofs.AlikeLaw.{common, common_count, found_below, objects_held, places_of, put, some_within}
