@@ -20,8 +20,7 @@ use Rattle.star_meaning.proofs.MovedExpressions.{GoesMeant}
 use Rattle.star_meaning.proofs.MovedForms.{go_meant}
 use Rattle.star_meaning.proofs.MovedStatements.{flow_to, go_body, go_call_to, go_statement}
 use Rattle.star_meaning.proofs.AlikeFrames.{flow_reach}
-use Rattle.star_meaning.proofs.AlikeLaw.{places_of}
-use Rattle.star_meaning.proofs.AlikeSteps.{farther, first, first_back, more, one, reach, second_back, steps_end_alike, two}
+use Rattle.star_meaning.proofs.AlikeSteps.{farther, first, first_back, more, one, places_of, reach, second_back, steps_end_alike, two}
 use Rattle.star_meaning.proofs.AlikeValues.{globals_placed, items_placed, placed, reached_like}
 
 module _ {C : Type 0} (setting : Setting C) (n : ℕ) (pairs : Pairs) (w v : World C) (h : IsAlikeWorld pairs w v) where

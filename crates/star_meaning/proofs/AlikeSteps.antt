@@ -1,20 +1,59 @@
 -- Steps of expressions and statements end alike from worlds that are alike.
-use Rattle.std.proofs.Common.{◌≡◌, ◌≤◌, ◌<◌, ◌+◌, ◌-◌, ℕ, suc, map, length, IsTrue, refl, sym, ap, arith, subst, ◌∙◌}
+use Rattle.std.proofs.Common.{◌≡◌, ◌≤◌, ◌<◌, ◌+◌, ◌-◌, ℕ, zero, suc, List, [], ◌∷◌, map, length, Bool, true, false, IsTrue, refl, sym, ap, arith, subst, ◌∙◌}
 use Rattle.std.proofs.lemmas.List.{length-map}
-use Rattle.std.specs.Prelude.{Option, Some, None, option_map}
+use Rattle.std.proofs.lemmas.Option.{none-some, slice_get_past, slice_get_within}
+use Rattle.std.specs.Prelude.{◌==◌, ◌&&◌, Option, Some, None, option_map, slice_get}
 use Rattle.star_value.specs.KeyOrder.{all_hold}
-use Rattle.star_meaning.specs.State.{Object, State, object}
+use Rattle.star_meaning.specs.State.{Object, AList, State, object}
 use Rattle.star_meaning.specs.Steps.{Outcome, Went, Failed, Steps}
 use Rattle.star_meaning.specs.World.{World}
 use Rattle.star_meaning.specs.Alike.{EndAlike, Extends, IsAlike, IsAlikeWorld, LikeFound, LikeOutcomes, Pairs, is_pair, like_global}
 use Rattle.star_meaning.specs.Growing.{reached}
 use Rattle.star_meaning.proofs.MovedValues.{Moving, entry_to, object_to}
-use Rattle.star_meaning.proofs.Moved.{Lands, Within, count, outcome_to}
+use Rattle.star_meaning.proofs.Moved.{Lands, Within, count, outcome_to, reaches}
 use Rattle.star_meaning.proofs.MovedWorld.{Goes, frame_to, of_world}
 use Rattle.star_meaning.proofs.AlikeFrames.{frame_placed, frame_reach}
-use Rattle.star_meaning.proofs.AlikeLaw.{common, common_count, found_below, objects_held, places_of, put, some_within}
-use Rattle.star_meaning.proofs.AlikeNumbers.{Side, at_beyond, at_or, at_same, at_within, below_is, firsts, firsts_apart, fresh, fresh_low, fresh_next, has_first, has_second, is_below, moving_apart, pairs_below, places, seconds, seconds_apart, side}
+use Rattle.star_meaning.proofs.AlikeNumbers.{Side, at_beyond, at_or, at_same, at_within, back, below_is, firsts, firsts_apart, fresh, fresh_low, fresh_next, has_first, has_second, in_or_second, is_below, moving_apart, pair_at, pairs_below, places, seconds, seconds_apart, side}
 use Rattle.star_meaning.proofs.AlikeValues.{globals_placed, globals_reach, object_placed, object_reach}
+
+pub some_within : {A : Type 0} (xs : List A) (n : ℕ) → n < length xs → slice_get xs n ≡ None → ⊥
+some_within [] n l h = omega arith
+some_within (x ∷ xs) zero l h = none-some x (sym h)
+some_within (x ∷ xs) (suc n) l h = some_within xs n (omega arith) h
+
+module _ {C : Type 0} (pairs : Pairs) (s t : State C) where
+  pub found_below : (a b : ℕ) (o p : Option (Object C)) → object s a ≡ o → object t b ≡ p → LikeFound pairs o p → (a < count s) × (b < count t)
+  unfolding object
+  found_below a b (Some o) (Some p) e f h = (slice_get_within s.objects a o e, slice_get_within t.objects b p f)
+  found_below a b None None e f h = absurd h
+  found_below a b None (Some p) e f h = absurd h
+  found_below a b (Some o) None e f h = absurd h
+
+-- ---- what two alike states have in common
+
+module _ {C : Type 0} (pairs : Pairs) (s : State C) where
+  -- numbers are places of the first state's
+  abbrev pub places_of : Moving
+  places_of = back (firsts pairs)
+
+  abbrev pub put : Option (Object C) → Object C
+  put None = AList []
+  put (Some o) = object_to places_of o
+
+  -- the first state's globals, and the objects of the pairs
+  abbrev pub common : State C
+  common = record { globals = map (entry_to places_of) s.globals; objects = map (λ pair. put (object s pair.0)) pairs }
+
+  pub common_count : count common ≡ length pairs
+  common_count = length-map pairs (λ pair. put (object s pair.0))
+
+  pub objects_held : (mv : Moving) (x : State C) (pick : ℕ × ℕ → ℕ) (f : ℕ → ℕ) → ((n : ℕ) → count x ≤ f n) → (ps : Pairs)
+      → ((p : ℕ × ℕ) → IsTrue (is_pair ps p.0 p.1) → object x (pick p) ≡ Some (object_to mv (put (object s p.0)))) → (id : ℕ)
+      → object x (at_or f (map pick ps) id) ≡ option_map (object_to mv) (slice_get (map (λ pair. put (object s pair.0)) ps) id)
+  unfolding object
+  objects_held mv x pick f low [] h id = slice_get_past x.objects (f id) (low id)
+  objects_held mv x pick f low (p ∷ ps) h zero = h p (pair_at f (p ∷ ps) 0 (omega arith))
+  objects_held mv x pick f low (p ∷ ps) h (suc id) = objects_held mv x pick f low ps (λ q k. h q (in_or_second ((p.0 == q.0) && (p.1 == q.1)) (is_pair ps q.0 q.1) k)) id
 
 -- the world of a state over places
 abbrev pub common_world : {C : Type 0} → Pairs → World C → World C
