@@ -95,7 +95,8 @@ pub fn check_ends(rt: &impl Abort, forest: &Forest, due: &[u32], name: &str) {
     let ends = forest.ends();
     assert_eq!(rt; ends.len(), due.len(), "{name}");
     for place in 0..due.len() {
-        assert_eq!(rt; ends[place].0, due[place], "{name}: version {place}");
+        let end = ends[place];
+        assert_eq!(rt; end.0, due[place], "{name}: version {place}");
     }
 }
 
@@ -105,7 +106,8 @@ pub fn check_children(rt: &impl Abort, forest: &Forest, node: u32, due: &[u32], 
     let children = forest.children(NodeId(node));
     assert_eq!(rt; children.len(), due.len(), "{name}: children of {node}");
     for place in 0..due.len() {
-        assert_eq!(rt; children[place].0, due[place], "{name}: children of {node}");
+        let child = children[place];
+        assert_eq!(rt; child.0, due[place], "{name}: children of {node}");
     }
 }
 
