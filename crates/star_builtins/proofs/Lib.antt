@@ -29,4 +29,11 @@ mod DepthLemmas
 mod TupleLemmas
 pub mod ChangedLemmas
 pub mod KeyLemmas
+mod NumeralLemmas
+mod RangeRows
+mod PrintLemmas
+mod InsertionLemmas
+mod SortLemmas
+mod SortRows
+mod TableLemmas
 mod CountLemmas

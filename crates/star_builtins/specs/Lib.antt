@@ -10,3 +10,6 @@ pub mod Walks
 pub mod Changes
 pub mod Rows
 pub mod Storing
+pub mod Numerals
+pub mod Sorting
+pub mod Table
