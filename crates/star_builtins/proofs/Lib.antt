@@ -37,3 +37,7 @@ mod SortLemmas
 mod SortRows
 mod TableLemmas
 mod CountLemmas
+mod Sequences
+mod Keyed
+mod Rowed
+mod Columns

@@ -59,7 +59,7 @@ module _ (made : List Value) (rows : List (List Value)) where
   later v (Went more w) = ap (λ vs. Went vs w) (sym (append_assoc made (v ∷ []) more))
   later v (Failed e w) = refl
 
-  then_more : (o : Outcome (Store ℕ) Failure Value) → and_then (and_then o (λ v. spec.tuples rows >>= (λ more. pure (v ∷ more)))) (λ more. pure (made ++ more)) ≡ and_then o (λ v. tuples_onto (made ++ v ∷ []) rows)
+  pub then_more : (o : Outcome (Store ℕ) Failure Value) → and_then (and_then o (λ v. spec.tuples rows >>= (λ more. pure (v ∷ more)))) (λ more. pure (made ++ more)) ≡ and_then o (λ v. tuples_onto (made ++ v ∷ []) rows)
   unfolding tuples_onto
   then_more (Went v w) = later v (spec.tuples rows w)
   then_more (Failed e w) = refl

@@ -3,7 +3,11 @@
 mod conversions;
 mod numerals;
 mod orders;
+mod pairing;
 mod printing;
+mod quantifiers;
 mod ranges;
+mod rows;
+mod sequences;
 mod sorting;
 mod table;

@@ -1,5 +1,5 @@
 //! New tuples.
-ghost use Rattle.std.specs.Prelude.{◌≡◌, ℕ, IfOk, nat_lt};
+ghost use Rattle.std.specs.Prelude.{◌≡◌, ℕ, [], ◌∷◌, IfOk, nat_lt};
 ghost use Rattle.star_builtins.specs.Reached.{AllFit, Answers, Fits};
 ghost use Rattle.star_meaning.specs.Steps.{Store};
 ghost use Rattle.star_meaning.specs.Validity.{MachineState};
@@ -30,4 +30,12 @@ fn nests_too_deep(of: &Value) -> bool
     ensures { result ≡ nat_lt 64 (depth of.now) }
 {
     of.depth() > DEEPEST
+}
+
+/// Whether a tuple around a value nests too deep.
+#[tactic(auto, using(crate::proofs::DepthLemmas::around))]
+pub fn nests_around(of: &Value) -> bool
+    ensures { result ≡ nat_lt 64 (depth (value.Tuple (of.now ∷ []))) }
+{
+    of.depth() >= DEEPEST
 }

@@ -90,7 +90,7 @@ pub fn charged_item(
 }
 
 /// The item at a place.
-fn item_of(items: &[Value], place: u128) -> &Value
+pub fn item_of(items: &[Value], place: u128) -> &Value
     requires { place < length items.now }
     ensures { slice_get items.now place ≡ Some result.now }
 {
@@ -99,7 +99,7 @@ fn item_of(items: &[Value], place: u128) -> &Value
 }
 
 /// The key of a dict at a place.
-fn key_of(id: ObjectId, place: u128, machine: &Machine) -> &Key
+pub fn key_of(id: ObjectId, place: u128, machine: &Machine) -> &Key
     requires kind { IsTrue (is_dict (slice_get machine.now.state.objects id)) }
     requires within { place < length (state.dict machine.now.state id) }
     ensures { slice_get (key_values (state.dict machine.now.state id)) place ≡ Some (value_of result.now) }
