@@ -35,7 +35,7 @@ mod PrintLemmas
 mod InsertionLemmas
 mod SortLemmas
 mod SortRows
-mod TableLemmas
+mod BuiltinTable
 mod CountLemmas
 mod Sequences
 mod Keyed

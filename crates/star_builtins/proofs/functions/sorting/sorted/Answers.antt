@@ -1,7 +1,7 @@
 use Rattle.std.proofs.Common.{◌≡◌, rules, Err}
 use Rattle.star_value.specs.declared.stop.Stop.TheVariants as stop
 use Rattle.star_meaning.specs.Builtins as spec
-use Rattle.star_builtins.proofs.TableLemmas.{given_to, refused}
+use Rattle.star_builtins.proofs.BuiltinTable.{given_to, refused}
 use Rattle.star_builtins.proofs.functions.sorting.sorted.Goals as goal
 
 pub returns-in_err-of-clause-gives : goal.returns-in_err-of-clause-gives
