@@ -40,7 +40,7 @@ over : (left n : ℕ) → left < n → charged left n ≡ (Err failure.StepLimit
 over left n h = grind (arith, nat_tests)
 
 -- a value is not made where the charge of its weight stops the cell
-stopped : (v : Value) (s : State ℕ) (left n : ℕ) → weight v ≡ n + 1 → left < n
+pub stopped : (v : Value) (s : State ℕ) (left n : ℕ) → weight v ≡ n + 1 → left < n
     → weighed (Went v (record { state = s; left = left })) ≡ Failed failure.StepLimit (record { state = s; left = 0 })
 unfolding charge
 stopped v s left n is h =

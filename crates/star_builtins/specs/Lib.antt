@@ -13,3 +13,6 @@ pub mod Storing
 pub mod Numerals
 pub mod Sorting
 pub mod Table
+pub mod TextRows
+pub mod MethodRows
+pub mod MethodNames

@@ -252,14 +252,16 @@ fn bound_from(low: i128, high: i128, count: i128, bound: Option<i128>, otherwise
     }
 }
 
-fn counted(count: i128, number: i128) -> i128
+/// An integer that counts from the end where it is negative, among so many.
+pub fn counted(count: i128, number: i128) -> i128
     requires { pos 0 ≤ℤ count }
     ensures { result ≡ (if int_lt number (pos 0) then number +ℤ count else number) }
 {
     if number < 0 { number + count } else { number }
 }
 
-fn clamped(low: i128, high: i128, number: i128) -> i128
+/// An integer brought between two others.
+pub fn clamped(low: i128, high: i128, number: i128) -> i128
     ensures { result ≡ values.clamped low high number }
 {
     if number < low {

@@ -17,10 +17,12 @@ use Rattle.star_meaning.specs.World.{Block, Frame, World, entered, start}
 use Rattle.star_meaning.specs.Expressions.{Callee, Setting, meant, target_names}
 use Rattle.star_meaning.specs.Statements.{body_of, call_to, run_function, statement_of}
 use Rattle.star_meaning.specs.Agreement.{Agree}
+use Rattle.star_meaning.specs.Alike.{AlikeMachines, Extends, IsAlike, Pairs}
 use Rattle.star_meaning.specs.Cells.{Shown, ran, ran_of, shown_setting, statements_from}
 use Rattle.star_meaning.specs.Growing.{Grown, IfWent, IsBack, reached}
 use Rattle.star_meaning.specs.Renaming.{state_as}
-use Rattle.star_meaning.specs.Validity.{MachineState, after, cell_of, ran_at, run_at, shown}
+use Rattle.star_meaning.specs.Snapshot.{IsBytesOf, IsCanon}
+use Rattle.star_meaning.specs.Validity.{IsMachine, MachineState, after, cell_of, ran_at, run_at, shown}
 
 -- no meaning depends on how cells are numbered: what a cell does in a shown state is what it does by numbers, shown
 abbrev pub NumbersDoNotMatter : Type 0
@@ -128,3 +130,29 @@ HaveTheirNames (AFunction cell number defaults ∷ os) = HasItsNames cell × Hav
 abbrev pub OnlyNamedInputsMatter : Type 0
 OnlyNamedInputsMatter = (s : Shown) (cell : CellParts) (one other : List (List ℕ × Input)) (allowance : ℕ) → HasItsNames cell → HaveTheirNames s.objects
     → Agree (cell.inputs ++ names_in_functions (λ c. c.inputs) s.objects) one other → ran s cell one allowance ≡ ran s cell other allowance
+
+-- ---- alike states
+
+-- From alike states a cell ends alike, writes the same and takes equally many steps, and the states after it are alike under a
+-- list that has the pairs of the old one.
+abbrev pub AlikeStatesRunAlike : Type 0
+AlikeStatesRunAlike = (pairs : Pairs) (s t : Shown) (cell : CellParts) (inputs : List (List ℕ × Input)) (allowance : ℕ) → IsAlike pairs s t
+    → ((ran t cell inputs allowance).0 ≡ (ran s cell inputs allowance).0) × ((more : Pairs) × Extends pairs more × IsAlike more (ran s cell inputs allowance).1 (ran t cell inputs allowance).1)
+
+-- the same of machine states and nodes
+abbrev pub AlikeMachinesRunAlike : Type 0
+AlikeMachinesRunAlike = (program : Program) (m n : MachineState) (node : ℕ) (inputs : List (List ℕ × Input)) (allowance : ℕ) → AlikeMachines m n
+    → (ran_at program n node inputs allowance ≡ ran_at program m node inputs allowance) × AlikeMachines (after program m node inputs allowance) (after program n node inputs allowance)
+
+-- To be alike is an equivalence of machine states.
+pub record AlikeIsAnEquivalence : Type 0 where
+  pub itself : (m : MachineState) → IsMachine m → AlikeMachines m m
+  pub both_ways : (m n : MachineState) → AlikeMachines m n → AlikeMachines n m
+  pub over : (m n o : MachineState) → AlikeMachines m n → AlikeMachines n o → AlikeMachines m o
+
+-- Alike machine states have one alike state whose objects are numbered as they are met, and so the same bytes.
+abbrev pub AlikeStatesHaveOneCanon : Type 0
+AlikeStatesHaveOneCanon = (m n c d : MachineState) → AlikeMachines m n → IsCanon m c → IsCanon n d → c ≡ d
+
+abbrev pub AlikeStatesHaveOneSnapshot : Type 0
+AlikeStatesHaveOneSnapshot = (m n : MachineState) (one other : List ℕ) → AlikeMachines m n → IsBytesOf m one → IsBytesOf n other → one ≡ other

@@ -16,5 +16,7 @@ pub mod Validity
 pub mod Growing
 pub mod Reading
 pub mod Renaming
+pub mod Alike
+pub mod Snapshot
 pub mod Laws
 pub mod Agreement

@@ -12,3 +12,4 @@ pub mod Failures
 pub mod Cells
 pub mod Turns
 pub mod LongCells
+pub mod Snapshots

@@ -68,3 +68,25 @@ pub fn only_named_inputs_matter()
     ensures read { laws.OnlyReadInputsMatter }
     ensures named { laws.OnlyNamedInputsMatter }
 {}
+
+/// Alike states run alike: from states that differ in the numbers of their objects, and in objects
+/// that nothing reaches, alone, a cell ends alike, writes the same and takes equally many steps,
+/// and the states after it are alike again. It is so of shown states and of machine states.
+pub fn alike_states_run_alike()
+    ensures shown { laws.AlikeStatesRunAlike }
+    ensures machines { laws.AlikeMachinesRunAlike }
+{}
+
+/// To be alike is an equivalence of machine states: each is alike to itself, it goes both ways, and
+/// from one state over a second to a third.
+#[tactic(auto, using(crate::proofs::AlikeTurned::alike_is_an_equivalence))]
+pub fn alike_is_an_equivalence()
+    ensures { laws.AlikeIsAnEquivalence }
+{}
+
+/// Alike machine states have one and the same snapshot: there is at most one alike state whose
+/// objects are numbered in the order in which they are met, and its bytes are those of each of them.
+pub fn alike_states_have_one_snapshot()
+    ensures canon { laws.AlikeStatesHaveOneCanon }
+    ensures bytes { laws.AlikeStatesHaveOneSnapshot }
+{}

@@ -14,12 +14,13 @@ mod tables;
 
 pub use flow::Flow;
 pub use laws::{
-    after_shows_the_meaning, calls_are_few, functions_stay, numbers_do_not_matter,
+    after_shows_the_meaning, alike_is_an_equivalence, alike_states_have_one_snapshot,
+    alike_states_run_alike, calls_are_few, functions_stay, numbers_do_not_matter,
     numbers_reach_after, only_named_inputs_matter, steps_are_spent, targets_bind_their_names,
     what_is_locked_stays,
 };
 pub use ran::{End, Ran};
 pub use tables::{
     arithmetic, builtin_functions, cells, choices, comparisons, dict_methods, failures,
-    list_methods, long_cells, parts, statements, text_methods, turns,
+    list_methods, long_cells, parts, snapshots, statements, text_methods, turns,
 };

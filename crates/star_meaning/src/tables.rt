@@ -12,6 +12,7 @@ ghost use Rattle.star_meaning.specs.Rows.DictMethods.{DictMethods};
 ghost use Rattle.star_meaning.specs.Rows.TextMethods.{TextMethods};
 ghost use Rattle.star_meaning.specs.Rows.Failures.{Failures};
 ghost use Rattle.star_meaning.specs.Rows.Cells.{Cells};
+ghost use Rattle.star_meaning.specs.Rows.Snapshots.{Snapshots};
 ghost use Rattle.star_meaning.specs.Rows.Turns.{Turns};
 
 /// Arithmetic on integers, texts, tuples and lists.
@@ -90,4 +91,10 @@ pub fn turns()
 #[tactic(auto, using(crate::proofs::Evaluated::LongCells::long_cells_hold))]
 pub fn long_cells()
     ensures { LongCells }
+{}
+
+/// Machine states that small cells reach: which of them are alike, and their bytes.
+#[tactic(auto, using(crate::proofs::Evaluated::Snapshots::snapshots_hold))]
+pub fn snapshots()
+    ensures { Snapshots }
 {}
