@@ -44,17 +44,10 @@ mod NameLemmas
 mod RowGiven
 mod MethodLemmas
 mod Sequences
-mod CountLemmas
 mod Keyed
 mod Rowed
 mod Columns
-mod NameLemmas
-mod RowGiven
 mod PairWalks
 mod PutLemmas
-mod MethodLemmas
-mod JoinLemmas
-mod GivenTexts
-mod TextLemmas
 mod TableLemmas
 mod DictLemmas
