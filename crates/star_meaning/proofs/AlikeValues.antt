@@ -102,7 +102,7 @@ module _ (pairs : Pairs) (bk one two : Moving) (first : (a b : ℕ) → IsTrue (
   pub placed : (x y : Value) → IsTrue (like pairs x y) → Placed x y
   placed = ind-Value (λ v. (y : Value) → IsTrue (like pairs v y) → Placed v y) (λ x y is. subst (λ z. (v : Value) → IsTrue (like pairs (roll-Value z) v) → Placed (roll-Value z) v) is (rolled_placed y))
 
-  items_placed : (xs ys : List Value) → IsTrue (like_items pairs xs ys) → AllPlaced xs ys
+  pub items_placed : (xs ys : List Value) → IsTrue (like_items pairs xs ys) → AllPlaced xs ys
   items_placed [] [] h = (refl, refl)
   items_placed [] (y ∷ ys) h = absurd (not_true h)
   items_placed (x ∷ xs) [] h = absurd (not_true h)

@@ -13,7 +13,7 @@ use Rattle.star_meaning.specs.Laws.{AlikeStatesHaveOneSnapshot}
 use Rattle.star_meaning.specs.Snapshot.{IsCanon, are_met, is_canonical, met_from, object_references, references, references_step, state_bytes}
 use Rattle.star_meaning.specs.Validity.{MachineState}
 use Rattle.star_meaning.proofs.MovedValues.{Moving}
-use Rattle.star_meaning.proofs.AlikeLaw.{found_below}
+use Rattle.star_meaning.proofs.AlikeSteps.{found_below}
 use Rattle.star_meaning.proofs.AlikeNumbers.{and_both, at_or, both_and, firsts, not_true, places, same_number, seconds}
 use Rattle.star_meaning.proofs.AlikeOrder.{one_first}
 use Rattle.star_meaning.proofs.AlikeTurned.{machines_over, machines_turned}

@@ -43,3 +43,6 @@ pub mod SnapshotLemmas
 pub mod AlikeOrder
 pub mod AlikeTurned
 pub mod Canonical
+pub mod AlikeFrames
+pub mod AlikeSteps
+pub mod AlikeParts

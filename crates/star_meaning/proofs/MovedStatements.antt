@@ -370,7 +370,7 @@ module _ {C : Type 0} (mv : Moving) where
     go_statements [] = go_pure mv refl
     go_statements (s ∷ ss) = go_then mv _ (go_statement s false None) (go_go_on _ _ (go_statements ss))
 
-    go_body : (b : Block Statement) → Flows (body_of st c b) (body_of st c b)
+    pub go_body : (b : Block Statement) → Flows (body_of st c b) (body_of st c b)
     go_body (blocks.Inline line) = go_line_of false line
     go_body (blocks.Indented ss) = go_statements ss
 

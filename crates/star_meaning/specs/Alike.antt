@@ -1,5 +1,5 @@
 -- When two states are alike: where they differ in the numbers of their objects, and in objects that nothing reaches, alone.
-use Rattle.std.specs.Prelude.{◌≡◌, ℕ, ◌==◌, Bool, true, false, not, ◌&&◌, List, [], ◌∷◌, map, Option, Some, IsTrue, bytes_eq}
+use Rattle.std.specs.Prelude.{◌≡◌, ℕ, ◌==◌, Bool, true, false, not, ◌&&◌, List, [], ◌∷◌, map, Option, Some, None, IsTrue, bytes_eq}
 use Rattle.std.specs.Bool.{beq}
 use Rattle.std.specs.List.{list_any}
 use Rattle.std.specs.Ordering.{int_eq}
@@ -8,9 +8,13 @@ use Rattle.star_value.specs.declared.range.Range.{Range}
 use Rattle.star_value.specs.declared.value.Value.{Value, fold-Value, out-Value}
 use Rattle.star_value.specs.declared.value.Value.TheOpen.{Value-F}
 use Rattle.star_value.specs.KeyOrder.{all_hold, same_key}
+use Rattle.star_meaning.specs.declared.flow.Flow.{Flow}
+use Rattle.star_meaning.specs.declared.flow.Flow.TheVariants as flow
 use Rattle.star_meaning.specs.State.{Object, AList, ADict, AFunction, State, object}
 use Rattle.star_meaning.specs.Values.{has}
 use Rattle.star_meaning.specs.Comparing.{same_builtin}
+use Rattle.star_meaning.specs.Steps.{Outcome, Went, Failed}
+use Rattle.star_meaning.specs.World.{Block, Frame, World}
 use Rattle.star_meaning.specs.Validity.{MachineState}
 
 -- pairs of object numbers, of a first state and of a second one
@@ -101,3 +105,49 @@ Alike s t = (pairs : Pairs) × IsAlike pairs s t
 pub record AlikeMachines (m n : MachineState) : Type 0 where
   pub ran : m.ran ≡ n.ran
   pub state : Alike m.state n.state
+
+-- ---- while a cell runs
+
+-- both unbound, or bound to values that correspond
+abbrev pub like_bound : Pairs → Option Value → Option Value → Bool
+like_bound pairs None None = true
+like_bound pairs (Some x) (Some y) = like pairs x y
+like_bound pairs _ _ = false
+
+abbrev pub like_slot : Pairs → List ℕ × Option Value → List ℕ × Option Value → Bool
+like_slot pairs x y = bytes_eq x.0 y.0 && like_bound pairs x.1 y.1
+
+abbrev pub like_block : Pairs → Block → Block → Bool
+like_block pairs b c = all_hold (map (like_slot pairs) b) c
+
+-- two frames correspond where their local names have corresponding values, and the active functions and what is iterated over
+-- correspond pairwise in order
+pub record LikeFrames (pairs : Pairs) (f g : Frame) : Type 0 where
+  pub blocks : IsTrue (all_hold (map (like_block pairs) f.blocks) g.blocks)
+  pub active : IsTrue (all_hold (map (is_pair pairs) f.active) g.active)
+  pub locked : IsTrue (all_hold (map (is_pair pairs) f.locked) g.locked)
+
+-- alike states and frames, with equal steps left and equal output
+pub record IsAlikeWorld {C : Type 0} (pairs : Pairs) (w v : World C) : Type 0 where
+  pub state : IsAlike pairs w.store.state v.store.state
+  pub left : v.store.left ≡ w.store.left
+  pub frame : LikeFrames pairs w.frame v.frame
+  pub out : v.out ≡ w.out
+
+-- results that correspond, or equal failures, in worlds that are alike
+abbrev pub LikeOutcomes : {C E A : Type 0} → (Pairs → A → A → Type 0) → Pairs → Outcome (World C) E A → Outcome (World C) E A → Type 0
+LikeOutcomes R pairs (Went a w) (Went b v) = R pairs a b × IsAlikeWorld pairs w v
+LikeOutcomes R pairs (Failed e w) (Failed f v) = (f ≡ e) × IsAlikeWorld pairs w v
+LikeOutcomes R pairs _ _ = ⊥
+
+-- steps end alike, under a list that has the pairs of the old one
+abbrev pub EndAlike : {C E A : Type 0} → (Pairs → A → A → Type 0) → Pairs → Outcome (World C) E A → Outcome (World C) E A → Type 0
+EndAlike R pairs o q = (more : Pairs) × Extends pairs more × LikeOutcomes R more o q
+
+-- how a statement ends: in one way, with corresponding values
+abbrev pub like_flow : Pairs → Flow → Flow → Bool
+like_flow pairs flow.On flow.On = true
+like_flow pairs flow.Break flow.Break = true
+like_flow pairs flow.Continue flow.Continue = true
+like_flow pairs (flow.Return x) (flow.Return y) = like pairs x y
+like_flow pairs _ _ = false

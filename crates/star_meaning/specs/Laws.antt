@@ -1,5 +1,5 @@
 -- Laws of running.
-use Rattle.std.specs.Prelude.{◌≡◌, ◌<◌, ◌≤◌, ◌+◌, ◌-◌, ℕ, suc, Bool, List, [], ◌∷◌, ◌++◌, length, Option, Some, IsTrue}
+use Rattle.std.specs.Prelude.{◌≡◌, ◌<◌, ◌≤◌, ◌+◌, ◌-◌, ℕ, suc, Bool, List, [], ◌∷◌, ◌++◌, length, map, Option, Some, IsTrue}
 use Rattle.chex_base.specs.declared.input.Input.{Input}
 use Rattle.star_syntax.specs.declared.cell.Program.{Program}
 use Rattle.star_syntax.specs.declared.expression.Expr.{Expr}
@@ -9,6 +9,7 @@ use Rattle.star_syntax.specs.CellParts.{CellParts}
 use Rattle.star_syntax.specs.Placement.{AreInputNames, names_read}
 use Rattle.star_value.specs.declared.failure.Failure.TheVariants.{TooManyCalls}
 use Rattle.star_value.specs.declared.value.Value.{Value}
+use Rattle.star_value.specs.KeyOrder.{all_hold}
 use Rattle.star_meaning.specs.State.{Object, AList, ADict, AFunction, State, function, object}
 use Rattle.star_meaning.specs.Steps.{Failed}
 use Rattle.star_meaning.specs.Values.{has}
@@ -17,7 +18,7 @@ use Rattle.star_meaning.specs.World.{Block, Frame, World, entered, start}
 use Rattle.star_meaning.specs.Expressions.{Callee, Setting, meant, target_names}
 use Rattle.star_meaning.specs.Statements.{body_of, call_to, run_function, statement_of}
 use Rattle.star_meaning.specs.Agreement.{Agree}
-use Rattle.star_meaning.specs.Alike.{AlikeMachines, Extends, IsAlike, Pairs}
+use Rattle.star_meaning.specs.Alike.{AlikeMachines, EndAlike, Extends, IsAlike, IsAlikeWorld, Pairs, is_pair, like, like_flow, like_global, like_items}
 use Rattle.star_meaning.specs.Cells.{Shown, ran, ran_of, shown_setting, statements_from}
 use Rattle.star_meaning.specs.Growing.{Grown, IfWent, IsBack, reached}
 use Rattle.star_meaning.specs.Renaming.{state_as}
@@ -156,3 +157,19 @@ AlikeStatesHaveOneCanon = (m n c d : MachineState) → AlikeMachines m n → IsC
 
 abbrev pub AlikeStatesHaveOneSnapshot : Type 0
 AlikeStatesHaveOneSnapshot = (m n : MachineState) (one other : List ℕ) → AlikeMachines m n → IsBytesOf m one → IsBytesOf n other → one ≡ other
+
+-- From worlds that are alike, in which also the local names, the active functions and what is iterated over correspond, each part of
+-- a cell ends alike, also where it fails, with corresponding results: an expression, what is stored in a target, a statement, the body
+-- of a function, and a call of a function.
+pub record PartsRunAlike (C : Type 0) : Type 0 where
+  pub value : (setting : Setting C) (n : ℕ) (e : Expr) (pairs : Pairs) (w v : World C) → IsAlikeWorld pairs w v
+      → EndAlike (λ ps x y. IsTrue (like ps x y)) pairs ((meant setting (call_to setting n) e).value w) ((meant setting (call_to setting n) e).value v)
+  pub store : (setting : Setting C) (n : ℕ) (e : Expr) (x y : Value) (pairs : Pairs) (w v : World C) → IsTrue (like pairs x y) → IsAlikeWorld pairs w v
+      → EndAlike (λ ps a b. Unit {0}) pairs ((meant setting (call_to setting n) e).store x w) ((meant setting (call_to setting n) e).store y v)
+  pub statement : (setting : Setting C) (n : ℕ) (s : Statement) (last : Bool) (number : Option ℕ) (pairs : Pairs) (w v : World C) → IsAlikeWorld pairs w v
+      → EndAlike (λ ps x y. IsTrue (like_flow ps x y)) pairs (statement_of setting (call_to setting n) s last number w) (statement_of setting (call_to setting n) s last number v)
+  pub body : (setting : Setting C) (n : ℕ) (b : Body Statement) (pairs : Pairs) (w v : World C) → IsAlikeWorld pairs w v
+      → EndAlike (λ ps x y. IsTrue (like_flow ps x y)) pairs (body_of setting (call_to setting n) b w) (body_of setting (call_to setting n) b v)
+  pub call : (setting : Setting C) (n : ℕ) (id jd : ℕ) (vs us : List Value) (named other : ByName) (pairs : Pairs) (w v : World C)
+      → IsTrue (is_pair pairs id jd) → IsTrue (like_items pairs vs us) → IsTrue (all_hold (map (like_global pairs) named) other) → IsAlikeWorld pairs w v
+      → EndAlike (λ ps x y. IsTrue (like ps x y)) pairs (call_to setting n id vs named w) (call_to setting n jd us other v)

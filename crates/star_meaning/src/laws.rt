@@ -90,3 +90,12 @@ pub fn alike_states_have_one_snapshot()
     ensures canon { laws.AlikeStatesHaveOneCanon }
     ensures bytes { laws.AlikeStatesHaveOneSnapshot }
 {}
+
+/// Each part of a cell ends alike from worlds that are alike, where also the local names, the active
+/// functions and what is iterated over correspond: with corresponding results or equal failures,
+/// equal steps left and equal output, in worlds that are alike.
+#[tactic(auto, using(crate::proofs::AlikeParts::shown_parts, crate::proofs::AlikeParts::numbered_parts))]
+pub fn alike_parts_end_alike()
+    ensures shown { laws.PartsRunAlike CellParts }
+    ensures numbered { laws.PartsRunAlike ℕ }
+{}
