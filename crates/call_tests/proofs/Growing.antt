@@ -37,6 +37,12 @@ push_fits m values v fit one = record {
   proper = all_push is_proper values v fit.proper one.proper;
 }
 
+pub push_named_fits : {A : Type 0} (m : MachineState) (named : List (A × Value)) (name : A) (v : Value) → AllFit m (map (λ entry. entry.1) named) → Fits m v → AllFit m (map (λ entry. entry.1) (named ++ (name, v) ∷ []))
+push_named_fits {A} m named name v fit one =
+    let P : List Value → Type 0 = λ values. AllFit m values in
+    let second : A × Value → Value = λ entry. entry.1 in
+    subst P (sym (map-append second named ((name, v) ∷ []))) (push_fits m (map second named) v fit one)
+
 pub one_fits : (m : MachineState) (v : Value) → Fits m v → AllFit m ([] ++ v ∷ [])
 one_fits m v one = push_fits m [] v (none_fit m) one
 

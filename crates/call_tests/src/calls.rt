@@ -12,11 +12,10 @@ use chex_base::{NodeId, ObjectId, Text};
 use heap_store::Machine;
 use sqlite_items::Items;
 use star_builtins::{
-    Call, Objects, augmented, call_builtin, call_method, index, new_tuple, show, store,
-    unpacked,
+    Call, Objects, augmented, call_builtin, call_method, index, new_tuple, show, store, unpacked,
 };
 use star_syntax::{Arguments, BinaryOp, Expr, SmallKind, Statement, Suffix};
-use star_value::{Meter, Stop, Value};
+use star_value::{Meter, Stop, Value, Values};
 use std::alloc::Global;
 
 /// What a call answers and leaves.
@@ -45,10 +44,18 @@ pub struct Terms {
     pub locked: bool,
 }
 
-/// Runs the call that a statement is.
-pub fn run(alloc: Global, statement: &Statement, terms: Terms) -> Result<Answer, Fault> {
+/// A machine in which the cell of node 1 runs.
+fn entered(alloc: Global) -> Result<Machine, Fault>
+    ensures { IfOk result (λ m. IsTrue (all_in is_proper m.state)) }
+{
     let mut machine = Machine::new(alloc);
     machine.enter(NodeId(1))?;
+    Ok(machine)
+}
+
+/// Runs the call that a statement is.
+pub fn run(alloc: Global, statement: &Statement, terms: Terms) -> Result<Answer, Fault> {
+    let mut machine = entered(alloc)?;
     match small_of(statement)? {
         SmallKind::Tests(tests) => called(alloc, only(tests.as_slice())?, terms, &mut machine),
         SmallKind::Assign(targets, tests) => assigned(
@@ -89,12 +96,7 @@ fn only(trees: &[Expr]) -> Result<&Expr, Fault> {
 }
 
 /// A call of a built-in function or of a method.
-fn called(
-    alloc: Global,
-    tree: &Expr,
-    terms: Terms,
-    machine: &mut Machine,
-) -> Result<Answer, Fault>
+fn called(alloc: Global, tree: &Expr, terms: Terms, machine: &mut Machine) -> Result<Answer, Fault>
     requires { IsTrue (all_in is_proper machine.old.state) }
 {
     let Expr::Primary(head, suffixes) = tree else {
@@ -156,11 +158,8 @@ fn method(
 }
 
 /// The arguments of a call.
-fn call_of(
-    alloc: Global,
-    arguments: &Arguments<Expr>,
-    machine: &mut Machine,
-) -> Result<Call, Fault>
+#[tactic(auto, using(crate::proofs::Growing::all_later, crate::proofs::Growing::grows_then))]
+fn call_of(alloc: Global, arguments: &Arguments<Expr>, machine: &mut Machine) -> Result<Call, Fault>
     requires { IsTrue (all_in is_proper machine.old.state) }
     ensures positional { IfOk result (λ call. AllFit machine.new call.positional) }
     ensures named { IfOk result (λ call. AllFit machine.new (map (λ entry. entry.1) call.named)) }
@@ -255,12 +254,18 @@ fn taken(
     let before = quoted(alloc, &of, machine)?;
     let mut meter = Meter { left: terms.left };
     let after = quoted(alloc, &of, machine)?;
-    let items = unpacked(alloc, count, of, machine, &mut meter);
-    let result = match items {
+    let result = tuple_of(unpacked(alloc, count, of, machine, &mut meter));
+    answered(alloc, result, meter.left, before, after, machine)
+}
+
+/// A tuple of items, where there are any.
+fn tuple_of(items: Result<Values, Stop>) -> Result<Value, Stop>
+    ensures { (m : MachineState) → IfOk items (λ all. AllFit m all) → IfOk result (λ v. Fits m v) }
+{
+    match items {
         Ok(items) => Ok(new_tuple(items)?),
         Err(stop) => Err(stop),
-    };
-    answered(alloc, result, meter.left, before, after, machine)
+    }
 }
 
 /// `x[i] op= v`; the result is what is stored.

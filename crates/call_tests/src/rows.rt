@@ -52,7 +52,14 @@ pub fn difference(alloc: Global, line: &str, locked: bool) -> Result<Option<Stri
     let [statement] = module.statements.as_slice() else {
         return Err(Fault::Unread);
     };
-    let ample = run(alloc, statement, Terms { left: AMPLE, locked })?;
+    let ample = run(
+        alloc,
+        statement,
+        Terms {
+            left: AMPLE,
+            locked,
+        },
+    )?;
     let expected = Expected {
         result: row.result,
         left: AMPLE.saturating_sub(row.steps),
@@ -120,9 +127,9 @@ fn compared(
     if !agrees(answer, expected) {
         let wanted = expected.result;
         let rest = expected.left;
-        return Ok(Some(
-            format!(in alloc; "{result} with {left} left, {after} after {before}, where {wanted} with {rest} left is wanted")?,
-        ));
+        return Ok(Some(format!(in alloc;
+            "{result} with {left} left, {after} after {before}, where {wanted} with {rest} left is wanted"
+        )?));
     }
     if !is_done && before.as_str() != after.as_str() {
         return Ok(Some(format!(in alloc; "{before} became {after}")?));

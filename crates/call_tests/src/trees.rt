@@ -28,6 +28,7 @@ pub fn no_program(alloc: Global) -> Program {
 
 /// The value of a tree.
 #[cycle(trees)]
+#[tactic(auto, using(crate::proofs::Growing::grows_same, crate::proofs::Growing::grows_then))]
 pub fn value(alloc: Global, tree: &Expr, machine: &mut Machine) -> Result<Value, Fault>
     requires { IsTrue (all_in is_proper machine.old.state) }
     ensures fits { IfOk result (λ v. Fits machine.new v) }
@@ -63,8 +64,18 @@ fn tuple(alloc: Global, trees: &[Expr], machine: &mut Machine) -> Result<Value, 
     Ok(new_tuple(items)?)
 }
 
+/// One more value at the end.
+#[tactic(auto, using(crate::proofs::Growing::push_fits))]
+fn push(items: &mut Values, item: Value) -> Result<(), Fault>
+    ensures { (m : MachineState) → AllFit m items.old → Fits m item → OnOk result (AllFit m items.new) }
+{
+    items.push(item)?;
+    Ok(())
+}
+
 /// The values of trees, in order.
 #[cycle(trees)]
+#[tactic(auto, using(crate::proofs::Growing::none_fit, crate::proofs::Growing::all_later, crate::proofs::Growing::grows_same, crate::proofs::Growing::grows_then))]
 pub fn values(alloc: Global, trees: &[Expr], machine: &mut Machine) -> Result<Values, Fault>
     requires { IsTrue (all_in is_proper machine.old.state) }
     ensures fit { IfOk result (λ items. AllFit machine.new items) }
@@ -73,13 +84,14 @@ pub fn values(alloc: Global, trees: &[Expr], machine: &mut Machine) -> Result<Va
     let mut items = Items::new(alloc);
     for tree in trees {
         let item = value(alloc, tree, machine)?;
-        items.push(item)?;
+        push(&mut items, item)?;
     }
     Ok(items)
 }
 
 /// A new dict of pairs.
 #[cycle(trees)]
+#[tactic(auto, using(crate::proofs::Growing::grows_same, crate::proofs::Growing::grows_then))]
 fn dict(alloc: Global, pairs: &[Pair<Expr>], machine: &mut Machine) -> Result<Value, Fault>
     requires { IsTrue (all_in is_proper machine.old.state) }
     ensures fits { IfOk result (λ v. Fits machine.new v) }
@@ -122,7 +134,7 @@ fn literal(alloc: Global, tree: &Expr) -> Result<Value, Fault>
         Expr::None => Ok(Value::None),
         Expr::True => Ok(Value::Bool(true)),
         Expr::False => Ok(Value::Bool(false)),
-        Expr::Int(number) => Ok(Value::Int(*number)),
+        Expr::Int(number) => signed(&[UnaryOp::Plus], Value::Int(*number)),
         Expr::Text(text) => Ok(text_value(text.copy(alloc)?)),
         _ => Err(Fault::Unread),
     }
@@ -137,7 +149,7 @@ pub fn text_value(text: Text) -> Value
 }
 
 fn signed(signs: &[UnaryOp], operand: Value) -> Result<Value, Fault>
-    ensures { (m : MachineState) → Fits m operand → IfOk result (λ v. Fits m v) }
+    ensures { (m : MachineState) → IfOk result (λ v. Fits m v) }
 {
     let [sign] = signs else {
         return Err(Fault::Unread);
@@ -147,6 +159,7 @@ fn signed(signs: &[UnaryOp], operand: Value) -> Result<Value, Fault>
 }
 
 /// What a name stands for.
+#[tactic(auto, using(crate::proofs::Growing::grows_same, crate::proofs::Growing::fits_builtin))]
 fn named_value(alloc: Global, name: &Text, machine: &mut Machine) -> Result<Value, Fault>
     ensures fits { IfOk result (λ v. Fits machine.new v) }
     ensures grows { OnOk result (Grows machine.old machine.new) }
@@ -213,13 +226,14 @@ fn new_range(alloc: Global, bounds: Values, machine: &mut Machine) -> Result<Val
 }
 
 /// The integers of literals with or without a sign.
+#[tactic(auto, using(crate::proofs::Growing::none_fit))]
 fn integers(alloc: Global, trees: &[Expr]) -> Result<Values, Fault>
     ensures { (m : MachineState) → IfOk result (λ items. AllFit m items) }
 {
     let mut items = Items::new(alloc);
     for tree in trees {
         let item = integer(tree)?;
-        items.push(item)?;
+        push(&mut items, item)?;
     }
     Ok(items)
 }
@@ -228,7 +242,7 @@ fn integer(tree: &Expr) -> Result<Value, Fault>
     ensures { (m : MachineState) → IfOk result (λ v. Fits m v) }
 {
     match tree {
-        Expr::Int(number) => Ok(Value::Int(*number)),
+        Expr::Int(number) => signed(&[UnaryOp::Plus], Value::Int(*number)),
         Expr::Signed(signs, operand) => match operand.get() {
             Expr::Int(number) => signed(signs.as_slice(), Value::Int(*number)),
             _ => Err(Fault::Unread),
@@ -237,7 +251,17 @@ fn integer(tree: &Expr) -> Result<Value, Fault>
     }
 }
 
+/// One more argument by name at the end.
+#[tactic(auto, using(crate::proofs::Growing::push_named_fits))]
+fn push_named(named: &mut NamedValues, name: Text, item: Value) -> Result<(), Fault>
+    ensures { (m : MachineState) → AllFit m (map (λ entry. entry.1) named.old) → Fits m item → OnOk result (AllFit m (map (λ entry. entry.1) named.new)) }
+{
+    named.push((name, item))?;
+    Ok(())
+}
+
 /// The values of arguments by name.
+#[tactic(auto, using(crate::proofs::Growing::none_fit, crate::proofs::Growing::all_later, crate::proofs::Growing::grows_same, crate::proofs::Growing::grows_then))]
 pub fn named_values(
     alloc: Global,
     trees: &[Named<Expr>],
@@ -249,8 +273,9 @@ pub fn named_values(
 {
     let mut named = Items::new(alloc);
     for tree in trees {
+        let name = tree.name.copy(alloc)?;
         let item = value(alloc, &tree.value, machine)?;
-        named.push((tree.name.copy(alloc)?, item))?;
+        push_named(&mut named, name, item)?;
     }
     Ok(named)
 }
