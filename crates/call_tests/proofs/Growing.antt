@@ -1,15 +1,13 @@
 -- Machines that grow, and values that fit them.
-use Rattle.std.proofs.Common.{◌≡◌, ℕ, Bool, true, List, [], ◌∷◌, ◌++◌, map, refl, sym, ap, subst, IsTrue, ℤ}
+use Rattle.std.proofs.Common.{ℕ, Bool, List, [], ◌∷◌, ◌++◌, map, refl, sym, subst, IsTrue}
 use Rattle.std.specs.List.{list_all}
 use Rattle.std.proofs.lemmas.List.{map-append}
 use Rattle.heap_store.proofs.Tested.{and_left, and_right, and_both, all_push}
 use Rattle.star_value.specs.declared.builtin.Builtin.{Builtin}
-use Rattle.star_value.specs.declared.key.Key.{Key}
 use Rattle.star_value.specs.declared.value.Value.{Value, fold-roll-Value}
 use Rattle.star_value.specs.declared.value.Value.TheVariants as value
 use Rattle.star_value.specs.Weight.{depth_step}
-use Rattle.star_meaning.specs.State.{Object}
-use Rattle.star_meaning.specs.Validity.{MachineState, fits, fits_step, is_proper, proper_step, all_in, all_in_pair}
+use Rattle.star_meaning.specs.Validity.{MachineState, fits, fits_step, is_proper, proper_step}
 use Rattle.star_builtins.specs.Changes.{PairsFit}
 use Rattle.star_builtins.specs.Reached.{AllFit, Fits, Follows}
 use Rattle.call_tests.specs.Growth.{Grows}
