@@ -29,6 +29,14 @@ mod DepthLemmas
 mod TupleLemmas
 pub mod ChangedLemmas
 pub mod KeyLemmas
+mod NumeralLemmas
+mod RangeRows
+mod PrintLemmas
+mod InsertionLemmas
+mod SortLemmas
+mod SortRows
+mod BuiltinTable
+mod CountLemmas
 mod JoinLemmas
 mod GivenTexts
 mod TextLemmas
@@ -36,17 +44,10 @@ mod NameLemmas
 mod RowGiven
 mod MethodLemmas
 mod Sequences
-mod CountLemmas
 mod Keyed
 mod Rowed
 mod Columns
-mod NameLemmas
-mod RowGiven
 mod PairWalks
 mod PutLemmas
-mod MethodLemmas
-mod JoinLemmas
-mod GivenTexts
-mod TextLemmas
 mod TableLemmas
 mod DictLemmas

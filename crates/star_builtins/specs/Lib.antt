@@ -10,6 +10,9 @@ pub mod Walks
 pub mod Changes
 pub mod Rows
 pub mod Storing
+pub mod Numerals
+pub mod Sorting
+pub mod Table
 pub mod TextRows
 pub mod MethodRows
 pub mod MethodNames

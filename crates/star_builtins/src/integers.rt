@@ -119,7 +119,7 @@ pub fn is_zero(number: i128) -> bool
 
 /// A number that is not negative.
 #[tactic(auto, using(crate::proofs::IntegerLemmas::in_range_if))]
-fn positive(size: u128) -> Option<i128>
+pub fn positive(size: u128) -> Option<i128>
     ensures { result ≡ in_range (pos size) }
 {
     0i128.checked_add_unsigned(size)
@@ -127,7 +127,7 @@ fn positive(size: u128) -> Option<i128>
 
 /// The number that lies one further below 0 than a size.
 #[tactic(auto, using(crate::proofs::IntegerLemmas::in_range_if))]
-fn below_zero(size: u128) -> Option<i128>
+pub fn below_zero(size: u128) -> Option<i128>
     ensures { result ≡ in_range (negsuc size) }
 {
     (-1i128).checked_sub_unsigned(size)

@@ -48,6 +48,7 @@ pub use call::{Call, NamedValues, Objects};
 pub use charges::{charge_items, charge_weight};
 pub use comparing::compare;
 pub use dicts::new_dict;
+pub use functions::call_builtin;
 pub use indexing::index;
 pub use lists::new_list;
 pub use methods::call_method;
