@@ -1,0 +1,10 @@
+pub mod SeenLemmas
+pub mod ReadLemmas
+pub mod WaitLemmas
+pub mod EntryLemmas
+pub mod ExpressionCases
+pub mod LoopLemmas
+pub mod Gathering
+pub mod GatherLemmas
+pub mod OverLemmas
+pub mod StatementCases
