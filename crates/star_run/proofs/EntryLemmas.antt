@@ -1,5 +1,5 @@
 -- A pair that is put among pairs that fit.
-use Rattle.std.proofs.Common.{◌≡◌, ℕ, List, [], ◌∷◌, Bool, true, false, refl, IsTrue}
+use Rattle.std.proofs.Common.{◌≡◌, List, [], ◌∷◌, Bool, true, false, refl, IsTrue}
 use Rattle.std.specs.Prelude.{◌&&◌, if◌then◌else◌, Some}
 use Rattle.std.specs.List.{list_all}
 use Rattle.heap_store.proofs.References.{key_fits}

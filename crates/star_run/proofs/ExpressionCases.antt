@@ -1,5 +1,5 @@
 -- The meaning of each form of an expression, one equation a form: as a value, as a target, and as a place whose value is changed.
-use Rattle.std.proofs.Common.{◌≡◌, ℕ, ℤ, List, [], ◌∷◌, map, Bool, true, false, Option, Some, None, refl, ap, ◌∙◌}
+use Rattle.std.proofs.Common.{◌≡◌, ℕ, ℤ, List, [], map, Bool, true, false, ap}
 use Rattle.star_syntax.specs.declared.expression.Arm.{Arm}
 use Rattle.star_syntax.specs.declared.expression.ChainLevel.{ChainLevel}
 use Rattle.star_syntax.specs.declared.expression.Clause.{Clause}
@@ -17,8 +17,8 @@ use Rattle.star_meaning.specs.Steps.{Failed, Went, and_then, charge, pure}
 use Rattle.star_meaning.specs.Values.{is_true, new_dict, new_list, new_tuple}
 use Rattle.star_meaning.specs.Operators.{index}
 use Rattle.star_meaning.specs.World.{Work, World, acting, bind, look_up, operate, operation}
-use Rattle.star_meaning.specs.Expressions.{Callee, Meant, Setting, chained, chosen, compared, comprehension, dict_turn, display_pairs, list_turn, meant, place, primary, signed, store_at, store_items, suffixed, truth, turned, values}
-use Rattle.star_meaning.proofs.Equations.{clause_meant, meant_chain, meant_compare, meant_conditional, meant_dict, meant_dictover, meant_false, meant_int, meant_list, meant_listover, meant_name, meant_none, meant_not, meant_paren, meant_primary, meant_signed, meant_text, meant_true, meant_tuple}
+use Rattle.star_meaning.specs.Expressions.{Callee, Meant, Setting, chained, chosen, compared, comprehension, dict_turn, display_pairs, list_turn, meant, place, primary, signed, store_at, store_items, suffixed, turned, values}
+use Rattle.star_meaning.proofs.Equations.{clause_meant, meant_compare, meant_dictover, meant_false, meant_int, meant_list, meant_listover, meant_name, meant_none, meant_not, meant_paren, meant_signed, meant_text, meant_true, meant_tuple}
 use Rattle.star_meaning.proofs.Forms.{arm_meant, chain_is, conditional_is, dict_is, link_meant, pair_meant, primary_is, suffix_meant}
 
 module _ {C : Type 0} (setting : Setting C) (call : Callee C) where

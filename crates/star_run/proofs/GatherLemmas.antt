@@ -1,15 +1,14 @@
 -- What comprehensions gather is what they give, and still fits.
-use Rattle.std.proofs.Common.{◌≡◌, ℕ, List, [], ◌∷◌, ◌++◌, map, length, refl, sym, ap, ◌∙◌, subst, arith}
-use Rattle.std.specs.List.{flat_map}
+use Rattle.std.proofs.Common.{◌≡◌, ℕ, List, [], ◌∷◌, ◌++◌, map, length, refl, sym, ap, ◌∙◌, arith}
 use Rattle.std.specs.Borrow.{Bor}
 use Rattle.star_syntax.specs.declared.expression.Clause.{Clause}
 use Rattle.star_syntax.specs.declared.expression.Expr.{Expr}
 use Rattle.star_value.specs.declared.failure.Failure.{Failure}
 use Rattle.star_value.specs.declared.key.Key.{Key}
 use Rattle.star_value.specs.declared.value.Value.{Value}
-use Rattle.star_meaning.specs.Steps.{Outcome, Went, Failed}
-use Rattle.star_meaning.specs.World.{Work, World}
-use Rattle.star_meaning.specs.Expressions.{clause_names, comprehension, dict_turn, list_turn}
+use Rattle.star_meaning.specs.Steps.{Went, Failed}
+use Rattle.star_meaning.specs.World.{World}
+use Rattle.star_meaning.specs.Expressions.{dict_turn, list_turn}
 use Rattle.star_meaning.proofs.Alone.{LeadsOn, acting_leads, next_leads}
 use Rattle.star_meaning.proofs.Keeping.{charge_keeps, key_keeps}
 use Rattle.star_meaning.proofs.LaterLemmas.{leads_same}
@@ -17,19 +16,16 @@ use Rattle.star_meaning.specs.State.{dict_put}
 use Rattle.star_meaning.specs.Values.{charge_weight}
 use Rattle.star_meaning.specs.Comparing.{key_in}
 use Rattle.star_meaning.proofs.Leading.{clauses_leads, next_item_leads, value_leads}
-use Rattle.star_meaning.proofs.TargetNames.{bound_by, clauses_are}
 use Rattle.star_value.specs.Weight.{weight}
-use Rattle.star_builtins.specs.Changes.{PairsFit}
-use Rattle.star_builtins.specs.Reached.{AllFit}
 use Rattle.star_run.specs.declared.gathered.Element.{Element}
 use Rattle.star_run.specs.declared.gathered.Element.TheVariants as element
 use Rattle.star_run.specs.declared.gathered.Gathered.{Gathered}
-use Rattle.star_run.specs.Fixed.{Fixed, callee, meaning, setting}
+use Rattle.star_run.specs.Fixed.{Fixed, meaning, setting}
 use Rattle.star_run.specs.Gathers.{GatheredFit, gather, gathering, turn}
 use Rattle.star_run.specs.Parts.{clause_meaning, listed, paired}
 use Rattle.star_run.specs.Running.{Goes, HasCredit, IsPaid, Makes, Running}
 use Rattle.star_run.proofs.Gathering.{comprehension_lifted, lowered, lowered_failure}
-use Rattle.star_run.proofs.WaitLemmas.{all_fit_later, none_fit, no_pairs_fit, pairs_fit_later}
+use Rattle.star_run.proofs.WaitLemmas.{all_fit_later, pairs_fit_later}
 
 abbrev made : List Value → List (Key × Value) → Gathered
 made items pairs = record { items = items; pairs = pairs }

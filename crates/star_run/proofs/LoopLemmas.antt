@@ -19,9 +19,9 @@ use Rattle.star_meaning.specs.Values.{charge_weight, is_true}
 use Rattle.star_meaning.specs.Builtins.{ByName}
 use Rattle.star_meaning.specs.Operators.{binary}
 use Rattle.star_meaning.specs.World.{Work, World, acting, operate}
-use Rattle.star_meaning.specs.Expressions.{Callee, Meant, Setting, display_pairs, meant, named_from, naming, new_key, suffix_value, suffixed, values_from}
+use Rattle.star_meaning.specs.Expressions.{display_pairs, named_from, naming, new_key, values_from}
 use Rattle.star_run.specs.Entries.{new_entry}
-use Rattle.star_run.specs.Fixed.{Fixed, callee, meaning, setting}
+use Rattle.star_run.specs.Fixed.{Fixed, meaning, setting}
 use Rattle.star_run.specs.Parts.{arms, each_target, linked, meanings, named_meaning, one_suffix, pair_meaning, suffixes, target}
 
 -- what is left of a list at a place

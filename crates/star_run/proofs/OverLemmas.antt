@@ -1,9 +1,7 @@
 -- The turns over a value, whose items are asked for by place.
-use Rattle.std.proofs.Common.{◌≡◌, ℕ, suc, zero, ◌+◌, ◌<◌, Bool, true, false, List, [], ◌∷◌, ◌++◌, map, length, drop, Option, Some, None, IsTrue, slice_get, refl, sym, ap, ◌∙◌, subst, arith}
+use Rattle.std.proofs.Common.{◌≡◌, ℕ, suc, zero, ◌+◌, Bool, false, List, [], ◌∷◌, ◌++◌, length, drop, Option, Some, None, IsTrue, slice_get, refl, sym, ap, ◌∙◌, subst, arith}
 use Rattle.std.specs.Prelude.{◌==◌, ◌||◌, is_some, option_map}
 use Rattle.std.proofs.lemmas.Bool.Decides.{nat_tests}
-use Rattle.star_syntax.specs.declared.expression.Clause.{Clause}
-use Rattle.star_syntax.specs.declared.expression.Expr.{Expr}
 use Rattle.star_value.specs.declared.failure.Failure.{Failure}
 use Rattle.star_value.specs.declared.failure.Failure.TheVariants as failure
 use Rattle.star_value.specs.declared.value.Value.{Value, out-Value, roll-Value, roll-out-Value, fold-roll-Value}
@@ -13,9 +11,8 @@ use Rattle.star_meaning.specs.Steps.{Outcome, Went, Failed, and_then, given_or}
 use Rattle.star_meaning.specs.Validity.{fits, fits_step, is_dict, is_list}
 use Rattle.star_meaning.specs.Values.{has, items_in, items_of}
 use Rattle.star_meaning.specs.World.{Work, World, acting, lock_at, lock_of, locking, turns, unlocked, with_frame, with_store}
-use Rattle.star_meaning.specs.Expressions.{Setting, loop_over}
+use Rattle.star_meaning.specs.Expressions.{loop_over}
 use Rattle.star_meaning.specs.Growing.{IsBack, Later, Leads}
-use Rattle.star_meaning.specs.Statements.{call_to}
 use Rattle.star_meaning.proofs.Alone.{LeadsOn}
 use Rattle.star_meaning.proofs.Keeping.{IsHeld, has_after, items_stay}
 

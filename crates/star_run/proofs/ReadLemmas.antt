@@ -1,7 +1,6 @@
 -- The name that `input(TEXT)` reads is the one of the meaning.
-use Rattle.std.proofs.Common.{◌≡◌, ℕ, List, [], ◌∷◌, map, drop, Bool, true, false, Option, Some, None, refl, ap, ◌∙◌}
+use Rattle.std.proofs.Common.{◌≡◌, ℕ, List, [], ◌∷◌, map, drop, Bool, true, false, Some, None, refl, ap, ◌∙◌}
 use Rattle.std.specs.Prelude.{if◌then◌else◌}
-use Rattle.star_syntax.specs.declared.expression.Arguments.{Arguments}
 use Rattle.star_syntax.specs.declared.expression.Expr.{Expr}
 use Rattle.star_syntax.specs.declared.expression.Named.{Named}
 use Rattle.star_syntax.specs.declared.expression.Suffix.{Suffix}
@@ -9,7 +8,7 @@ use Rattle.star_syntax.specs.declared.expression.Suffix.TheVariants as suffix
 use Rattle.star_syntax.specs.Placement.{first_literal, lone_literal, seen}
 use Rattle.star_meaning.specs.Steps.{and_then}
 use Rattle.star_meaning.specs.World.{World, without_first}
-use Rattle.star_meaning.specs.Expressions.{Callee, Meant, Setting, headed, input_name, meant, parts, primary, read_input, suffixed}
+use Rattle.star_meaning.specs.Expressions.{Callee, Setting, headed, input_name, meant, parts, primary, read_input, suffixed}
 use Rattle.star_meaning.proofs.Forms.{named_meant, suffix_meant}
 use Rattle.star_meaning.proofs.ReadingLemmas.{sees}
 use Rattle.star_run.specs.Fixed.{Fixed, callee, meaning, setting}

@@ -1,5 +1,5 @@
 -- The meaning of each form of a statement, one equation a form.
-use Rattle.std.proofs.Common.{◌≡◌, ℕ, List, [], ◌∷◌, map, Bool, true, false, Option, Some, None, refl, ap, ◌∙◌}
+use Rattle.std.proofs.Common.{◌≡◌, ℕ, List, [], ◌∷◌, map, Bool, Option, Some, None, refl, ap, ◌∙◌}
 use Rattle.std.specs.Prelude.{if◌then◌else◌, option_map}
 use Rattle.star_syntax.specs.declared.expression.Expr.{Expr}
 use Rattle.star_syntax.specs.declared.statement.Block.{Block}
@@ -7,15 +7,13 @@ use Rattle.star_syntax.specs.declared.statement.Branch.{Branch}
 use Rattle.star_syntax.specs.declared.statement.Definition.{Definition}
 use Rattle.star_syntax.specs.declared.statement.Line.{Line}
 use Rattle.star_syntax.specs.declared.statement.Statement.{Statement}
-use Rattle.star_syntax.specs.declared.statement.Statement.TheOpen.{Statement-F}
 use Rattle.star_syntax.specs.declared.statement.Statement.TheVariants as s
-use Rattle.star_meaning.specs.declared.flow.Flow.{Flow}
 use Rattle.star_value.specs.declared.failure.Failure.{Failure}
 use Rattle.star_meaning.specs.declared.flow.Flow.TheVariants as flow
 use Rattle.star_meaning.specs.Steps.{Outcome, Went, Failed, and_then, charge, pure, ◌>>=◌, ◌>>◌}
-use Rattle.star_meaning.specs.World.{Course, World, acting, located, located_at}
+use Rattle.star_meaning.specs.World.{World, acting, located, located_at}
 use Rattle.star_meaning.specs.Expressions.{Callee, Setting}
-use Rattle.star_meaning.specs.Statements.{block_of, body_of, branches_of, condition_of, defined, else_of, iterated, layer_of, line_of, repeated, statement_of}
+use Rattle.star_meaning.specs.Statements.{body_of, branches_of, condition_of, else_of, iterated, line_of, repeated, statement_of}
 use Rattle.star_meaning.proofs.Equations.{statement_def, statement_line}
 use Rattle.star_meaning.proofs.Forms.{block_done, block_is, branch_done, for_is, if_is}
 use Rattle.star_run.specs.Bodies.{branches_from, otherwise}

@@ -1,5 +1,5 @@
 -- What the parts of expressions mean in a cell that runs, each with the meanings of its trees in their places.
-use Rattle.std.specs.Prelude.{ℕ, Bool, true, false, if◌then◌else◌, List, [], ◌∷◌, map, Option, Some, None, option_map}
+use Rattle.std.specs.Prelude.{ℕ, List, [], map, Option, option_map}
 use Rattle.star_syntax.specs.declared.expression.Arguments.{Arguments}
 use Rattle.star_syntax.specs.declared.expression.Arm.{Arm}
 use Rattle.star_syntax.specs.declared.expression.Clause.{Clause}
@@ -13,7 +13,7 @@ use Rattle.star_syntax.specs.declared.expression.Suffix.TheVariants as suffix
 use Rattle.star_value.specs.declared.key.Key.{Key}
 use Rattle.star_value.specs.declared.value.Value.{Value}
 use Rattle.star_value.specs.declared.value.Value.TheVariants as value
-use Rattle.star_meaning.specs.Steps.{Went, and_then, charge, pure, ◌>>=◌}
+use Rattle.star_meaning.specs.Steps.{Went, and_then, charge, ◌>>=◌}
 use Rattle.star_meaning.specs.Values.{is_true}
 use Rattle.star_meaning.specs.Builtins.{ByName}
 use Rattle.star_meaning.specs.World.{Work, acting}
