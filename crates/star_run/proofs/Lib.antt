@@ -1,3 +1,9 @@
+pub mod RunLemmas
+pub mod ChargeLemmas
+pub mod ConstantLemmas
+pub mod NameLemmas
+pub mod BlockLemmas
+pub mod LocalLemmas
 pub mod SeenLemmas
 pub mod ReadLemmas
 pub mod WaitLemmas

@@ -1,4 +1,9 @@
 pub mod Running
+pub mod RunView
+pub mod Settled
+pub mod Names
+pub mod Finds
+pub mod Locals
 pub mod Fixed
 pub mod Parts
 pub mod Reads

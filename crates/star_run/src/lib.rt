@@ -5,10 +5,21 @@
 //! other.
 #![tactic(auto)]
 
+mod blocks;
+mod charging;
+mod constants;
 mod gathered;
 mod given;
+mod lookups;
+mod names;
 mod reads;
+mod running;
+mod slots;
 
+pub use blocks::Blocks;
 pub use gathered::{Element, Gathered};
 pub use given::Given;
+pub use names::unbound_of;
 pub use reads::name_read;
+pub use running::Run;
+pub use slots::{Layout, Slots};
