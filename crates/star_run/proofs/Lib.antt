@@ -4,6 +4,7 @@ pub mod ConstantLemmas
 pub mod NameLemmas
 pub mod BlockLemmas
 pub mod LocalLemmas
+pub mod SignLemmas
 pub mod SeenLemmas
 pub mod ReadLemmas
 pub mod WaitLemmas

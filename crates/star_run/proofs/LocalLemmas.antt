@@ -1,6 +1,6 @@
 -- The names that blocks have, one after the other.
 use Rattle.std.proofs.Common.{◌≡◌, ℕ, ◌+◌, Bool, true, false, cond, List, [], ◌∷◌, ◌++◌, map, Option, Some, None, refl, sym, ap, ◌∙◌, append_assoc, append-nil, add-one, get_or, length, take, take-suc, ◌<◌}
-use Rattle.std.specs.Prelude.{if◌then◌else◌, ◌||◌, not, bytes_eq, option_map}
+use Rattle.std.specs.Prelude.{if◌then◌else◌, ◌||◌, not, bytes_eq, option_map, OnOk, Result, Ok, Err}
 use Rattle.std.proofs.lemmas.Slice.Eq.{bytes_eq-Decides}
 use Rattle.std.specs.List.{filter, flat_map, list_any}
 use Rattle.star_syntax.specs.declared.expression.Clause.{Clause}
@@ -221,6 +221,24 @@ statement_if at first more other =
 pub if_names : (at : ℕ) (first : Branch Statement) (more : List (Branch Statement)) (other : Option (Body Statement)) (found : Names)
     → with_names found (statement_names (s.If at first more other)) ≡ with_names (with_names (with_names found (body_names first.body)) (flat_map branch_bound more)) (else_bound other)
 if_names at first more other found = ap (with_names found) (statement_if at first more other) ∙ simp with_more
+
+-- the names of an `if`, branch after branch
+pub if_step : (whole : Statement) (at : ℕ) (first : Branch Statement) (more bs : List (Branch Statement)) (other : Option (Body Statement)) (start n1 n2 after : List (List ℕ)) → whole ≡ s.If at first more other
+    → n1 ≡ with_names start (body_names first.body) → n2 ≡ with_names n1 (flat_map branch_bound bs) → bs ≡ more → after ≡ with_names n2 (else_bound other) → after ≡ with_names start (statement_names whole)
+if_step whole at first more bs other start n1 n2 after is one two same now =
+    now ∙ ap (λ n. with_names n (else_bound other)) (two ∙ ap (λ b. with_names n1 (flat_map branch_bound b)) same ∙ ap (λ n. with_names n (flat_map branch_bound more)) one)
+    ∙ sym (if_names at first more other start) ∙ ap (λ x. with_names start (statement_names x)) (sym is)
+
+-- no `else`
+pub if_alone : (n : List (List ℕ)) (other : Option (Body Statement)) → other ≡ None → n ≡ with_names n (else_bound other)
+if_alone n other is = sym (with_none n) ∙ ap (λ o. with_names n (else_bound o)) (sym is)
+
+pub if_other : (n2 after : List (List ℕ)) (body : Body Statement) (other : Option (Body Statement)) → other ≡ Some body → after ≡ with_names n2 (body_names body) → after ≡ with_names n2 (else_bound other)
+if_other n2 after body other is now = now ∙ ap (λ o. with_names n2 (else_bound o)) (sym is)
+
+pub on_ok : {A E : Type 0} (r : Result A E) (P Q : Type 0) → (P → Q) → OnOk r P → OnOk r Q
+on_ok (Ok a) P Q f h = f h
+on_ok (Err e) P Q f h = tt
 
 loop_names : Statement-F Names → Names
 loop_names (Statement-F.For at targets over body) = branch_names (record { condition = e.None; body = body })

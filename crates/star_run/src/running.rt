@@ -255,6 +255,22 @@ impl Run {
 
     // ---- operators
 
+    /// Signs before an operand; the one that stands next to it comes first.
+    pub fn signed(&mut self, signs: &[UnaryOp], operand: Value) -> Result<Value, Stop>
+        requires { Fits self.old.machine operand }
+        ensures gives { Gives (spec.signed signs.now operand (world self.old)) result (world self.new) }
+        ensures goes { Goes self.old self.new }
+        ensures fits { IfOk result (λ v. Fits self.new.machine v) }
+    {
+        let mut value = operand;
+        let mut left = signs.len();
+        while left > 0 {
+            left -= 1;
+            value = self.sign(signs[left], value)?;
+        }
+        Ok(value)
+    }
+
     /// An operator between two operands.
     pub fn binary(
         &mut self,
