@@ -1,0 +1,17 @@
+pub mod RunLemmas
+pub mod ChargeLemmas
+pub mod ConstantLemmas
+pub mod NameLemmas
+pub mod BlockLemmas
+pub mod LocalLemmas
+pub mod SignLemmas
+pub mod SeenLemmas
+pub mod ReadLemmas
+pub mod WaitLemmas
+pub mod EntryLemmas
+pub mod ExpressionCases
+pub mod LoopLemmas
+pub mod Gathering
+pub mod GatherLemmas
+pub mod OverLemmas
+pub mod StatementCases

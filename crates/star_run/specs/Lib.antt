@@ -1,0 +1,12 @@
+pub mod Running
+pub mod RunView
+pub mod Settled
+pub mod Names
+pub mod Finds
+pub mod Locals
+pub mod Fixed
+pub mod Parts
+pub mod Reads
+pub mod Gathers
+pub mod Entries
+pub mod Bodies
