@@ -1,0 +1,6 @@
+use Rattle.std.proofs.Math.Facts.{to_z-of_z}
+use Rattle.star_builtins.proofs.FitLemmas.{fits_int}
+use Rattle.machine_bench.proofs.measures.integer.Goals as goal
+
+pub returns : goal.returns
+returns c m = rw (to_z-of_z c.ranges.number) (fits_int m c.args.number c.ranges.number)
