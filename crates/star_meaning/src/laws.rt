@@ -91,6 +91,13 @@ pub fn alike_states_have_one_snapshot()
     ensures bytes { laws.AlikeStatesHaveOneSnapshot }
 {}
 
+/// The bytes of a machine's state, where they are fewer than 2^64, are those of no other state of a
+/// machine. So two snapshots are equal only where the states are alike.
+pub fn bytes_tell_the_state()
+    ensures bytes { laws.BytesTellTheState }
+    ensures alike { laws.SnapshotsTellAlikeStates }
+{}
+
 /// Each part of a cell ends alike from worlds that are alike, where also the local names, the active
 /// functions and what is iterated over correspond: with corresponding results or equal failures,
 /// equal steps left and equal output, in worlds that are alike.
