@@ -51,3 +51,4 @@ pub mod ToldValues
 pub mod ToldKeys
 pub mod ToldStates
 pub mod ToldMachines
+pub mod Walked
