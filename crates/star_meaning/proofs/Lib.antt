@@ -52,3 +52,6 @@ pub mod ToldKeys
 pub mod ToldStates
 pub mod ToldMachines
 pub mod Walked
+pub mod WalkedNumbers
+pub mod WalkedValues
+pub mod WalkedStates

@@ -1,5 +1,5 @@
 -- What a machine keeps, and proper values, fit the bytes of its state.
-use Rattle.std.proofs.Common.{◌≡◌, ◌≤◌, ◌^◌, ℕ, Bool, false, not, List, [], ◌∷◌, map, length, IsTrue, Option, Some, None, slice_get, refl, sym, arith, subst}
+use Rattle.std.proofs.Common.{◌≡◌, ◌≤◌, ◌<◌, ◌^◌, ℕ, Bool, false, not, List, [], ◌∷◌, map, length, IsTrue, Option, Some, None, slice_get, refl, sym, arith, subst, ◌∙◌}
 use Rattle.std.proofs.lemmas.Bool.Decides.{nat_tests}
 use Rattle.std.proofs.lemmas.Option.{slice_get_within}
 use Rattle.std.specs.List.{list_all}
@@ -15,11 +15,14 @@ use Rattle.star_meaning.specs.State.{Object, AList, ADict, AFunction}
 use Rattle.star_meaning.specs.Values.{has_128_bits, is_zero}
 use Rattle.star_meaning.specs.Alike.{AlikeMachines}
 use Rattle.star_meaning.specs.Laws.{BytesTellTheState, SnapshotsTellAlikeStates}
+use Rattle.star_meaning.specs.Snapshot.{IsCanon, state_bytes}
 use Rattle.star_meaning.specs.Validity.{IsMachine, MachineState, all_in, all_in_object, all_in_pair, fits, fits_step, has_32_bits, has_small_numbers, is_dict, is_function, is_list, is_proper, proper_step}
 use Rattle.star_meaning.proofs.AlikeNumbers.{and_both, both_and, not_true}
-use Rattle.star_meaning.proofs.AlikeTurned.{machines_over, machines_turned}
+use Rattle.star_meaning.proofs.AlikeTurned.{machine_itself, machines_over, machines_turned}
+use Rattle.star_meaning.proofs.Canonical.{one_canon, one_snapshot}
 use Rattle.star_meaning.proofs.ToldStates.{IsWritten, global_written, object_written, states_told}
 use Rattle.star_meaning.proofs.ToldValues.{layer_written, rolled_written, written}
+use Rattle.star_meaning.proofs.WalkedStates.{each_canon}
 
 module _ (os : List (Object ℕ)) (few : length os ≤ 2 ^ 32) where
   below : (test : Option (Object ℕ) → Bool) → test None ≡ false → (o : Option (Object ℕ)) (id : ℕ) → slice_get os id ≡ o → IsTrue (test o) → IsTrue (has_32_bits id)
@@ -123,6 +126,24 @@ machine_written m h p =
 pub bytes_tell : BytesTellTheState
 bytes_tell m n h p k q l e = states_told m n (machine_written m h p) (machine_written n k q) l e
 
-pub snapshots_tell : SnapshotsTellAlikeStates
-snapshots_tell m n c d f g h p k q l e =
+-- so states whose objects are numbered as they are met have equal bytes only where the states that they are alike to are alike
+canons_tell : (m n c d : MachineState) → IsCanon m c → IsCanon n d → IsMachine c → IsTrue (all_in is_proper c.state) → IsMachine d → IsTrue (all_in is_proper d.state)
+    → length (state_bytes c) < 2 ^ 64 → state_bytes c ≡ state_bytes d → AlikeMachines m n
+canons_tell m n c d f g h p k q l e =
     machines_over m c n f.alike (subst (λ x. AlikeMachines x n) (sym (bytes_tell c d h p k q l e)) (machines_turned n d g.alike))
+
+-- the state that a snapshot is the bytes of is of a machine, with proper values where the first state has them
+snapshot_kept : (m c : MachineState) → IsMachine m → IsTrue (all_in is_proper m.state) → IsCanon m c → IsMachine c × IsTrue (all_in is_proper c.state)
+snapshot_kept m c h p f =
+    let one = each_canon m h in
+    let same : one.canon ≡ c = one_canon m m one.canon c (machine_itself m h) one.is_canon f in
+    (subst IsMachine same one.kept, subst (λ x. IsTrue (all_in is_proper x.state)) same (one.proper p))
+
+pub snapshots_tell : SnapshotsTellAlikeStates
+snapshots_tell m n one other h p k q l f g = (
+  λ e.
+      let here = snapshot_kept m f.0 h p f.1 in
+      let there = snapshot_kept n g.0 k q g.1 in
+      canons_tell m n f.0 g.0 f.1 g.1 here.0 here.1 there.0 there.1 (subst (λ bytes. length bytes < 2 ^ 64) f.2 l) (sym f.2 ∙ e ∙ g.2),
+  λ a. one_snapshot m n one other a f g,
+)

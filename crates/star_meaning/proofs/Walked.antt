@@ -2,13 +2,15 @@
 use Rattle.std.proofs.Common.{◌≡◌, ◌<◌, ◌+◌, ℕ, suc, Bool, true, false, List, [], ◌∷◌, ◌++◌, map, length, IsTrue, refl, sym, ap, arith, subst, ◌∙◌, append_assoc, append-nil, length-append}
 use Rattle.std.proofs.lemmas.Bool.Decides.{Decides-eqb, nat_tests}
 use Rattle.std.specs.List.{flat_map}
-use Rattle.std.specs.Prelude.{◌==◌, ◌||◌, nat_lt, if◌then◌else◌, Option, Some, None}
+use Rattle.std.specs.Prelude.{◌==◌, ◌||◌, nat_lt, if◌then◌else◌, Some, None}
+use Rattle.star_value.specs.declared.key.Key.{Key}
 use Rattle.star_value.specs.declared.value.Value.{Value, fold-roll-Value, ind-Value, map-Value, roll-Value}
 use Rattle.star_value.specs.declared.value.Value.TheOpen.{Value-F}
+use Rattle.star_meaning.specs.State.{Object, AList, ADict, AFunction}
 use Rattle.star_meaning.specs.Values.{has}
-use Rattle.star_meaning.specs.Snapshot.{met_from, references, references_step}
-use Rattle.star_meaning.proofs.MovedValues.{Moving, layer, moved, rolled}
-use Rattle.star_meaning.proofs.AlikeNumbers.{not_true, place, same_number}
+use Rattle.star_meaning.specs.Snapshot.{met_from, object_references, references, references_step}
+use Rattle.star_meaning.proofs.MovedValues.{Moving, entry_to, layer, moved, object_to, pair_to, rolled}
+use Rattle.star_meaning.proofs.AlikeNumbers.{not_true, place}
 
 -- ---- references of a value with other numbers
 
@@ -16,10 +18,10 @@ map_over : (f : ℕ → ℕ) (xs ys : List ℕ) → map f (xs ++ ys) ≡ map f x
 map_over f [] ys = refl
 map_over f (x ∷ xs) ys = ap (λ rest. f x ∷ rest) (map_over f xs ys)
 
-abbrev layer_references : Value-F Value → List ℕ
+abbrev pub layer_references : Value-F Value → List ℕ
 layer_references x = references_step (map-Value Value (List ℕ) references x)
 
-rolled_references : (x : Value-F Value) → references (roll-Value x) ≡ layer_references x
+pub rolled_references : (x : Value-F Value) → references (roll-Value x) ≡ layer_references x
 unfolding references
 rolled_references x = fold-roll-Value (List ℕ) references_step x
 
@@ -56,6 +58,19 @@ module _ (mv : Moving) where
   pub value_renumbered : (v : Value) → Renumbered v
   value_renumbered = ind-Value Renumbered (λ x y is. subst (λ z. Renumbered (roll-Value z)) is (rolled_renumbered y))
 
+  -- and so of lists of what has values
+  flat_renumbered : {A : Type 0} (f : A → List ℕ) (g : A → A) → ((a : A) → f (g a) ≡ map mv.to (f a)) → (xs : List A) → flat_map f (map g xs) ≡ map mv.to (flat_map f xs)
+  flat_renumbered f g h [] = refl
+  flat_renumbered f g h (x ∷ xs) = (λ i. h x i ++ flat_renumbered f g h xs i) ∙ sym (map_over mv.to (f x) (flat_map f xs))
+
+  pub object_renumbered : {C : Type 0} (o : Object C) → object_references (object_to mv o) ≡ map mv.to (object_references o)
+  object_renumbered (AList xs) = flat_renumbered {A = Value} references (moved mv) value_renumbered xs
+  object_renumbered (ADict ps) = flat_renumbered {A = Key × Value} (λ pair. references pair.1) (pair_to mv) (λ pair. value_renumbered pair.1) ps
+  object_renumbered (AFunction c n xs) = flat_renumbered {A = Value} references (moved mv) value_renumbered xs
+
+  pub globals_renumbered : (gs : List (List ℕ × Value)) → flat_map (λ entry. references entry.1) (map (entry_to mv) gs) ≡ map mv.to (flat_map (λ entry. references entry.1) gs)
+  globals_renumbered gs = flat_renumbered {A = List ℕ × Value} (λ entry. references entry.1) (entry_to mv) (λ entry. value_renumbered entry.1) gs
+
 -- ---- numbers that are met one after another
 
 -- those met before, and then each new one
@@ -72,7 +87,7 @@ met_grows met (id ∷ ids) = by (has met id) (λ m. met_grows m ids)
     by true k = k met
     by false k = let rest = k (met ++ id ∷ []) in (id ∷ rest.0, rest.1 ∙ append_assoc met (id ∷ []) rest.0)
 
-place_before : (xs ys : List ℕ) (id : ℕ) → IsTrue (has xs id) → place (xs ++ ys) id < length xs
+pub place_before : (xs ys : List ℕ) (id : ℕ) → IsTrue (has xs id) → place (xs ++ ys) id < length xs
 place_before [] ys id h = absurd (not_true h)
 place_before (x ∷ xs) ys id h = by (x == id) refl (place_before xs ys id) h
   where
