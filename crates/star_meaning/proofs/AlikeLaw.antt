@@ -1,11 +1,8 @@
 -- Alike states run alike.
 use Rattle.std.proofs.Common.{◌≡◌, ◌+◌, ◌-◌, ◌++◌, ℕ, List, [], ◌∷◌, refl, sym, ap, subst, ◌∙◌}
 use Rattle.std.specs.Prelude.{Some}
-use Rattle.chex_base.specs.declared.input.Input.{Input}
-use Rattle.star_syntax.specs.declared.cell.Program.{Program}
 use Rattle.star_syntax.specs.declared.statement.Module.{Module}
 use Rattle.star_syntax.specs.declared.statement.Statement.{Statement}
-use Rattle.star_syntax.specs.CellParts.{CellParts}
 use Rattle.star_meaning.specs.declared.flow.Flow.{Flow}
 use Rattle.star_meaning.specs.declared.ran.End.TheVariants as end
 use Rattle.star_meaning.specs.State.{State}
@@ -14,7 +11,7 @@ use Rattle.star_meaning.specs.World.{Course, Fault, World, start}
 use Rattle.star_meaning.specs.Expressions.{Callee, Setting}
 use Rattle.star_meaning.specs.Statements.{call_to}
 use Rattle.star_meaning.specs.Cells.{is_def, ran, ran_of, run, shown_setting, statements_from}
-use Rattle.star_meaning.specs.Validity.{MachineState, after, cell_of, numbered_setting, run_at}
+use Rattle.star_meaning.specs.Validity.{after, cell_of, numbered_setting, run_at}
 use Rattle.star_meaning.specs.Alike.{AlikeMachines, EndAlike, Extends, IsAlike, IsAlikeWorld, LikeOutcomes, Pairs}
 use Rattle.star_meaning.specs.Laws.{AlikeMachinesRunAlike, AlikeStatesRunAlike}
 use Rattle.star_meaning.proofs.MovedValues.{Moving}

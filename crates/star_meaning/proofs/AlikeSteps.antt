@@ -1,5 +1,5 @@
 -- Steps of expressions and statements end alike from worlds that are alike.
-use Rattle.std.proofs.Common.{◌≡◌, ◌≤◌, ◌<◌, ◌+◌, ◌-◌, ℕ, zero, suc, List, [], ◌∷◌, map, length, Bool, true, false, IsTrue, refl, sym, ap, arith, subst, ◌∙◌}
+use Rattle.std.proofs.Common.{◌≡◌, ◌≤◌, ◌<◌, ◌+◌, ◌-◌, ℕ, zero, suc, List, [], ◌∷◌, map, length, IsTrue, refl, sym, ap, arith, subst, ◌∙◌}
 use Rattle.std.proofs.lemmas.List.{length-map}
 use Rattle.std.proofs.lemmas.Option.{none-some, slice_get_past, slice_get_within}
 use Rattle.std.specs.Prelude.{◌==◌, ◌&&◌, Option, Some, None, option_map, slice_get}
@@ -10,7 +10,7 @@ use Rattle.star_meaning.specs.World.{World}
 use Rattle.star_meaning.specs.Alike.{EndAlike, Extends, IsAlike, IsAlikeWorld, LikeFound, LikeOutcomes, Pairs, is_pair, like_global}
 use Rattle.star_meaning.specs.Growing.{reached}
 use Rattle.star_meaning.proofs.MovedValues.{Moving, entry_to, object_to}
-use Rattle.star_meaning.proofs.Moved.{Lands, Within, count, outcome_to, reaches}
+use Rattle.star_meaning.proofs.Moved.{Lands, Within, count, outcome_to}
 use Rattle.star_meaning.proofs.MovedWorld.{Goes, frame_to, of_world}
 use Rattle.star_meaning.proofs.AlikeFrames.{frame_placed, frame_reach}
 use Rattle.star_meaning.proofs.AlikeNumbers.{Side, at_beyond, at_or, at_same, at_within, back, below_is, firsts, firsts_apart, fresh, fresh_low, fresh_next, has_first, has_second, in_or_second, is_below, moving_apart, pair_at, pairs_below, places, seconds, seconds_apart, side}

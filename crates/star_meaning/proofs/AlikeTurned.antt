@@ -235,7 +235,7 @@ machines_turned m n h = record { ran = sym h.ran; state = (turned h.state.0, ali
 pub machines_over : (m n o : MachineState) → AlikeMachines m n → AlikeMachines n o → AlikeMachines m o
 machines_over m n o h k = record { ran = h.ran ∙ k.ran; state = (joined h.state.0 k.state.0, alike_over h.state.0 k.state.0 m.state n.state o.state h.state.1 k.state.1) }
 
-machine_itself : (m : MachineState) → IsMachine m → AlikeMachines m m
+pub machine_itself : (m : MachineState) → IsMachine m → AlikeMachines m m
 machine_itself m h = record { ran = refl; state = (own m.state, alike_itself m.state h.references) }
 
 pub alike_is_an_equivalence : AlikeIsAnEquivalence

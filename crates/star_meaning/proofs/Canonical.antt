@@ -25,7 +25,7 @@ unchanged = record { to = λ n. n; one = λ a b. refl; bound = 0 }
 
 module _ (p : Pairs) where
   -- the references of values that correspond are pairs, in order
-  abbrev Paired : List ℕ → List ℕ → Type 0
+  abbrev pub Paired : List ℕ → List ℕ → Type 0
   Paired xs ys = IsTrue (all_hold (map (is_pair p) xs) ys)
 
   appended : (xs ys vs ws : List ℕ) → Paired xs ys → Paired vs ws → Paired (xs ++ vs) (ys ++ ws)
@@ -96,7 +96,7 @@ module _ (p : Pairs) where
       let both = and_both (like_pair p x y) _ h in
       appended (references x.1) (references y.1) _ _ (value_refers x.1 y.1 (and_both (same_key x.0 y.0) (like p x.1 y.1) both.0).1) (dict_refers xs ys both.1)
 
-  globals_refer : (xs ys : List (List ℕ × Value)) → IsTrue (all_hold (map (like_global p) xs) ys) → Paired (flat_map (λ entry. references entry.1) xs) (flat_map (λ entry. references entry.1) ys)
+  pub globals_refer : (xs ys : List (List ℕ × Value)) → IsTrue (all_hold (map (like_global p) xs) ys) → Paired (flat_map (λ entry. references entry.1) xs) (flat_map (λ entry. references entry.1) ys)
   globals_refer [] [] h = refl
   globals_refer [] (y ∷ ys) h = absurd (not_true h)
   globals_refer (x ∷ xs) [] h = absurd (not_true h)
@@ -104,7 +104,7 @@ module _ (p : Pairs) where
       let both = and_both (like_global p x y) _ h in
       appended (references x.1) (references y.1) _ _ (value_refers x.1 y.1 (and_both _ (like p x.1 y.1) both.0).1) (globals_refer xs ys both.1)
 
-  object_refers : {C : Type 0} (o q : Object C) → LikeObjects p o q → Paired (object_references o) (object_references q)
+  pub object_refers : {C : Type 0} (o q : Object C) → LikeObjects p o q → Paired (object_references o) (object_references q)
   object_refers (AList xs) (AList ys) h = list_refers xs ys h
   object_refers (ADict xs) (ADict ys) h = dict_refers xs ys h
   object_refers (AFunction c m xs) (AFunction d n ys) h = list_refers xs ys h.2

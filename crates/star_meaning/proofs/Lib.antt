@@ -46,3 +46,12 @@ pub mod Canonical
 pub mod AlikeFrames
 pub mod AlikeSteps
 pub mod AlikeParts
+pub mod ToldParts
+pub mod ToldValues
+pub mod ToldKeys
+pub mod ToldStates
+pub mod ToldMachines
+pub mod Walked
+pub mod WalkedNumbers
+pub mod WalkedValues
+pub mod WalkedStates

@@ -174,8 +174,8 @@ module _ {C : Type 0} (mv : Moving) where
           go_then mv _ m.0.1.value (λ v. go_loop_over _ _ (λ x b. go_then mv _ (go_next_item targets m.0.0 x) (λ _. go_clauses_from cs m.1 b)) v a)
 
       pub go_comprehension : (cs : List (Clause (Meant C))) → Every MeansClause cs → (a : A) → Goes {C = C} mv g (comprehension cs f a) (comprehension cs k (g a))
-      go_comprehension [] m a = go_pure mv refl
-      go_comprehension (clause.If condition ∷ cs) m a = go_pure mv refl
+      go_comprehension [] m a = go_then mv _ (go_charging mv 1) (λ _. go_pure mv {a = a} {b = g a} refl)
+      go_comprehension (clause.If condition ∷ cs) m a = go_then mv _ (go_charging mv 1) (λ _. go_pure mv {a = a} {b = g a} refl)
       go_comprehension (clause.For targets over ∷ cs) m a =
           go_then mv _ m.0.1.value (λ v. go_then mv _ (go_charging mv 1) (λ _.
           subst (λ b. Goes {C = C} mv g (in_block (unbound (distinct (flat_map clause_names (clause.For targets over ∷ cs)))) (loop_over (λ x b. next_item targets x >> clauses_from cs f b) v a))

@@ -207,8 +207,8 @@ module _ {C D : Type 0} (name : Names C D) where
     same_clauses_from (x ∷ xs) [] k a = absurd k
 
     pub same_comprehension : (xs : List (Clause (Meant C))) (ys : List (Clause (Meant D))) → Each AlikeClause xs ys → (a : A) → SameSteps name (comprehension xs f a) (comprehension ys g a)
-    same_comprehension [] [] k a = same_going name a
-    same_comprehension (clause.If condition ∷ xs) (clause.If other ∷ ys) k a = same_going name a
+    same_comprehension [] [] k a = same_next name _ _ _ _ (same_charging name 1) (λ _. same_going name a)
+    same_comprehension (clause.If condition ∷ xs) (clause.If other ∷ ys) k a = same_next name _ _ _ _ (same_charging name 1) (λ _. same_going name a)
     same_comprehension (clause.For targets over ∷ xs) (clause.For others with ∷ ys) k a =
         same_next name _ _ _ _ k.0.1.value (λ v. same_next name _ _ _ _ (same_charging name 1) (λ _.
         subst (λ n. SameSteps name (in_block (unbound (distinct (flat_map clause_names (clause.For targets over ∷ xs)))) (loop_over (λ x b. next_item targets x >> clauses_from xs f b) v a))

@@ -175,14 +175,15 @@ clauses_from (clause.For targets over ∷ more) inner a = do
   v ← over.value
   loop_over (λ x b. next_item targets x >> clauses_from more inner b) v a
 
--- the first operand, outside the comprehension's block, and 1; then the turns in the block
+-- the first operand, outside the comprehension's block, and 1; then the turns in the block. A first clause that is no `for`, as no
+-- text has it, gives no turns, and 1 all the same: so a step pays for each list and dict that a tree makes.
 abbrev pub comprehension : {C A : Type 0} → List (Clause (Meant C)) → (A → Work C A) → A → Work C A
 comprehension (clause.For targets over ∷ more) inner a = do
   v ← over.value
   acting (charge 1)
   in_block (unbound (distinct (flat_map clause_names (clause.For targets over ∷ more))))
       (loop_over (λ x b. next_item targets x >> clauses_from more inner b) v a)
-comprehension _ inner a = pure a
+comprehension _ inner a = acting (charge 1) >> pure a
 
 unfoldable pub list_turn : {C : Type 0} → Meant C → List Value → Work C (List Value)
 list_turn m done = m.value >>= (λ v. pure (done ++ v ∷ []))

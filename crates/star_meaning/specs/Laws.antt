@@ -1,5 +1,5 @@
 -- Laws of running.
-use Rattle.std.specs.Prelude.{◌≡◌, ◌<◌, ◌≤◌, ◌+◌, ◌-◌, ℕ, suc, Bool, List, [], ◌∷◌, ◌++◌, length, map, Option, Some, IsTrue}
+use Rattle.std.specs.Prelude.{◌≡◌, ◌<◌, ◌≤◌, ◌↔◌, ◌+◌, ◌-◌, ◌^◌, ℕ, suc, Bool, List, [], ◌∷◌, ◌++◌, length, map, Option, Some, IsTrue}
 use Rattle.chex_base.specs.declared.input.Input.{Input}
 use Rattle.star_syntax.specs.declared.cell.Program.{Program}
 use Rattle.star_syntax.specs.declared.expression.Expr.{Expr}
@@ -22,8 +22,8 @@ use Rattle.star_meaning.specs.Alike.{AlikeMachines, EndAlike, Extends, IsAlike, 
 use Rattle.star_meaning.specs.Cells.{Shown, ran, ran_of, shown_setting, statements_from}
 use Rattle.star_meaning.specs.Growing.{Grown, IfWent, IsBack, reached}
 use Rattle.star_meaning.specs.Renaming.{state_as}
-use Rattle.star_meaning.specs.Snapshot.{IsBytesOf, IsCanon}
-use Rattle.star_meaning.specs.Validity.{IsMachine, MachineState, after, cell_of, ran_at, run_at, shown}
+use Rattle.star_meaning.specs.Snapshot.{IsBytesOf, IsCanon, IsSnapshot, state_bytes}
+use Rattle.star_meaning.specs.Validity.{IsMachine, IsValid, MachineState, after, all_in, cell_of, is_proper, ran_at, run_at, shown}
 
 -- no meaning depends on how cells are numbered: what a cell does in a shown state is what it does by numbers, shown
 abbrev pub NumbersDoNotMatter : Type 0
@@ -157,6 +157,32 @@ AlikeStatesHaveOneCanon = (m n c d : MachineState) → AlikeMachines m n → IsC
 
 abbrev pub AlikeStatesHaveOneSnapshot : Type 0
 AlikeStatesHaveOneSnapshot = (m n : MachineState) (one other : List ℕ) → AlikeMachines m n → IsBytesOf m one → IsBytesOf n other → one ≡ other
+
+-- The bytes of a machine's state, where they are fewer than 2 ^ 64, are those of no other. So many bytes have counts of 8 bytes.
+abbrev pub BytesTellTheState : Type 0
+BytesTellTheState = (m n : MachineState) → IsMachine m → IsTrue (all_in is_proper m.state) → IsMachine n → IsTrue (all_in is_proper n.state)
+    → length (state_bytes m) < 2 ^ 64 → state_bytes m ≡ state_bytes n → m ≡ n
+
+-- A state is alike to one whose objects are numbered as they are met, and which is of a machine too. The values there are proper
+-- where those of the state are, and it is valid over a program where the state is.
+pub record HasCanon (m : MachineState) : Type 0 where
+  pub canon : MachineState
+  pub is_canon : IsCanon m canon
+  pub kept : IsMachine canon
+  pub proper : IsTrue (all_in is_proper m.state) → IsTrue (all_in is_proper canon.state)
+  pub valid : (program : Program) → IsValid program m → IsValid program canon
+
+abbrev pub EachStateHasACanon : Type 0
+EachStateHasACanon = (m : MachineState) → IsMachine m → HasCanon m
+
+-- so each valid state has a snapshot
+abbrev pub EachValidStateHasASnapshot : Type 0
+EachValidStateHasASnapshot = (program : Program) (m : MachineState) → IsValid program m → (bytes : List ℕ) × IsBytesOf m bytes × IsSnapshot program bytes
+
+-- And two states have equal snapshots, of fewer than 2 ^ 64 bytes, exactly where they are alike.
+abbrev pub SnapshotsTellAlikeStates : Type 0
+SnapshotsTellAlikeStates = (m n : MachineState) (one other : List ℕ) → IsMachine m → IsTrue (all_in is_proper m.state) → IsMachine n → IsTrue (all_in is_proper n.state)
+    → length one < 2 ^ 64 → IsBytesOf m one → IsBytesOf n other → ((one ≡ other) ↔ AlikeMachines m n)
 
 -- From worlds that are alike, in which also the local names, the active functions and what is iterated over correspond, each part of
 -- a cell ends alike, also where it fails, with corresponding results: an expression, what is stored in a target, a statement, the body

@@ -91,6 +91,20 @@ pub fn alike_states_have_one_snapshot()
     ensures bytes { laws.AlikeStatesHaveOneSnapshot }
 {}
 
+/// Each state of a machine is alike to one whose objects are numbered in the order in which they
+/// are met, and which is of a machine too. So each valid state has a snapshot.
+pub fn each_state_has_a_snapshot()
+    ensures canon { laws.EachStateHasACanon }
+    ensures snapshot { laws.EachValidStateHasASnapshot }
+{}
+
+/// The bytes of a machine's state, where they are fewer than 2^64, are those of no other state of a
+/// machine. So two snapshots are equal exactly where the states are alike.
+pub fn bytes_tell_the_state()
+    ensures bytes { laws.BytesTellTheState }
+    ensures alike { laws.SnapshotsTellAlikeStates }
+{}
+
 /// Each part of a cell ends alike from worlds that are alike, where also the local names, the active
 /// functions and what is iterated over correspond: with corresponding results or equal failures,
 /// equal steps left and equal output, in worlds that are alike.

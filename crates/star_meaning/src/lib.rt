@@ -15,9 +15,9 @@ mod tables;
 pub use flow::Flow;
 pub use laws::{
     after_shows_the_meaning, alike_is_an_equivalence, alike_parts_end_alike,
-    alike_states_have_one_snapshot, alike_states_run_alike, calls_are_few, functions_stay,
-    numbers_do_not_matter, numbers_reach_after, only_named_inputs_matter, steps_are_spent,
-    targets_bind_their_names, what_is_locked_stays,
+    alike_states_have_one_snapshot, alike_states_run_alike, bytes_tell_the_state, calls_are_few,
+    each_state_has_a_snapshot, functions_stay, numbers_do_not_matter, numbers_reach_after,
+    only_named_inputs_matter, steps_are_spent, targets_bind_their_names, what_is_locked_stays,
 };
 pub use ran::{End, Ran};
 pub use tables::{

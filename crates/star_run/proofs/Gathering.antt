@@ -85,8 +85,8 @@ module _ {C A B : Type 0} (up : A → B) where
 
     -- a comprehension
     pub comprehension_lifted : (cs : List (Clause (Meant C))) → Lifts (comprehension cs inner) (comprehension cs outer)
-    comprehension_lifted [] a w = refl
-    comprehension_lifted (clause.If condition ∷ more) a w = refl
+    comprehension_lifted [] a w = next_lifted (acting (charge 1) w) (λ paid. pure a) (λ paid. pure (up a)) (λ paid u. refl)
+    comprehension_lifted (clause.If condition ∷ more) a w = next_lifted (acting (charge 1) w) (λ paid. pure a) (λ paid. pure (up a)) (λ paid u. refl)
     comprehension_lifted (clause.For targets over ∷ more) a w =
         next_lifted (over.value w)
         (λ v u. and_then (acting (charge 1) u) (λ paid. in_block (block_of targets over more) (loop_over (turn targets more) v a)))

@@ -7,7 +7,7 @@ use Rattle.star_value.specs.declared.value.Value.TheOpen.{Value-F}
 use Rattle.star_meaning.specs.Alike.{Alike, LikeFound, Pairs, is_pair, like, like_layer}
 use Rattle.star_meaning.specs.State.{object}
 use Rattle.star_meaning.specs.Snapshot.{state_bytes}
-use Rattle.star_meaning.specs.Rows.Snapshots.{Snapshots, one_list, two_lists, x_first, y_first}
+use Rattle.star_meaning.specs.Rows.Snapshots.{Snapshots, bound_again, bound_last, one_list, two_lists, x_first, y_first}
 use Rattle.star_meaning.proofs.Equations.{layers}
 use Rattle.star_meaning.proofs.Opened.{evaluation}
 use Rattle.star_meaning.proofs.AlikeNumbers.{and_both, not_true, or_either, places, same_number, at_or, seconds}
@@ -32,6 +32,28 @@ crossed a b h =
     (λ l. let both = and_both (1 == a) (0 == b) l in
     subst (λ n. LikeFound {C = ℕ} ((0, 1) ∷ (1, 0) ∷ []) (object x_first n) (object y_first b)) (same_number 1 a both.0)
     (subst (λ n. LikeFound {C = ℕ} ((0, 1) ∷ (1, 0) ∷ []) (object x_first 1) (object y_first n)) (same_number 0 b both.1) (simp like_ints))) (λ l. absurd (not_true l)) k) h
+
+-- the list of x and the list that it is written as
+found_again : (a b : ℕ) → IsTrue (is_pair ((1, 0) ∷ []) a b) → LikeFound {C = ℕ} ((1, 0) ∷ []) (object bound_again a) (object bound_last b)
+unfolding object
+found_again a b h =
+    or_either ((1 == a) && (0 == b)) false (LikeFound {C = ℕ} ((1, 0) ∷ []) (object bound_again a) (object bound_last b))
+    (λ k. let both = and_both (1 == a) (0 == b) k in
+    subst (λ n. LikeFound {C = ℕ} ((1, 0) ∷ []) (object bound_again n) (object bound_last b)) (same_number 1 a both.0)
+    (subst (λ n. LikeFound {C = ℕ} ((1, 0) ∷ []) (object bound_again 1) (object bound_last n)) (same_number 0 b both.1) (simp like_ints))) (λ k. absurd (not_true k)) h
+
+-- the two lists of y, and the two of x
+crossed_back : (a b : ℕ) → IsTrue (is_pair ((1, 0) ∷ (0, 1) ∷ []) a b) → LikeFound {C = ℕ} ((1, 0) ∷ (0, 1) ∷ []) (object y_first a) (object x_first b)
+unfolding object
+crossed_back a b h =
+    or_either ((1 == a) && (0 == b)) (((0 == a) && (1 == b)) || false) (LikeFound {C = ℕ} ((1, 0) ∷ (0, 1) ∷ []) (object y_first a) (object x_first b))
+    (λ k. let both = and_both (1 == a) (0 == b) k in
+    subst (λ n. LikeFound {C = ℕ} ((1, 0) ∷ (0, 1) ∷ []) (object y_first n) (object x_first b)) (same_number 1 a both.0)
+    (subst (λ n. LikeFound {C = ℕ} ((1, 0) ∷ (0, 1) ∷ []) (object y_first 1) (object x_first n)) (same_number 0 b both.1) (simp like_ints)))
+    (λ k. or_either ((0 == a) && (1 == b)) false (LikeFound {C = ℕ} ((1, 0) ∷ (0, 1) ∷ []) (object y_first a) (object x_first b))
+    (λ l. let both = and_both (0 == a) (1 == b) l in
+    subst (λ n. LikeFound {C = ℕ} ((1, 0) ∷ (0, 1) ∷ []) (object y_first n) (object x_first b)) (same_number 0 a both.0)
+    (subst (λ n. LikeFound {C = ℕ} ((1, 0) ∷ (0, 1) ∷ []) (object y_first 0) (object x_first n)) (same_number 1 b both.1) (simp like_ints))) (λ l. absurd (not_true l)) k) h
 
 one_is_not_two : Alike {C = ℕ} one_list two_lists → ⊥
 one_is_not_two h =
@@ -59,4 +81,20 @@ snapshots_hold = record {
   first_bytes = simp (bytes_int, bytes_list);
   first_length = simp (bytes_int, bytes_list);
   empty_length = refl;
+  x_first_appended = simp layers;
+  y_first_appended = simp layers;
+  two_lists_reached = simp layers;
+  one_list_appended = simp layers;
+  two_lists_appended = simp layers;
+  bound_again_reached = simp layers;
+  bound_again_canon = record {
+    alike = record { ran = refl; state = ((1, 0) ∷ [], record { first_once = refl; second_once = refl; globals = simp like_lists; objects = found_again }) };
+    canonical = simp (references_int, references_list);
+  };
+  bound_again_length = simp (bytes_int, bytes_list);
+  orders_canon = record {
+    alike = record { ran = refl; state = ((1, 0) ∷ (0, 1) ∷ [], record { first_once = refl; second_once = refl; globals = simp like_lists; objects = crossed_back }) };
+    canonical = simp (references_int, references_list);
+  };
+  orders_length = simp (bytes_int, bytes_list);
 }
