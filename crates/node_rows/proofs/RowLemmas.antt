@@ -23,7 +23,7 @@ module _ (program : Program) (node : ℕ) (inputs : List (List ℕ × Input)) (a
       → now ≡ option_map (λ m. after program m node inputs allowance) before → r.end ≡ end.Done → IfSome now (λ m. IsSizeOf m size)
       → printed ≡ cell_text number r → text ≡ sha256 (encode_utf8_all printed)
       → IfSome before (λ m. IsMeasured parent number (ran_at program m node inputs allowance) (after program m node inputs allowance)
-        (record { row = record { parent = parent; end = reach.Done; steps = r.steps; bytes = size; text = text }; text = printed }))
+      (record { row = record { parent = parent; end = reach.Done; steps = r.steps; bytes = size; text = text }; text = printed }))
   measured_done None now r size text printed is next done sized prints digest = tt
   measured_done (Some m) now r size text printed is next done sized prints digest =
       let made : Measured = record { row = record { parent = parent; end = reach.Done; steps = r.steps; bytes = size; text = text }; text = printed } in
@@ -38,7 +38,7 @@ module _ (program : Program) (node : ℕ) (inputs : List (List ℕ × Input)) (a
       → r.end ≡ end.Failed failure line
       → printed ≡ cell_text number r → text ≡ sha256 (encode_utf8_all printed)
       → IfSome before (λ m. IsMeasured parent number (ran_at program m node inputs allowance) (after program m node inputs allowance)
-        (record { row = record { parent = parent; end = reach.Failed; steps = r.steps; bytes = 0; text = text }; text = printed }))
+      (record { row = record { parent = parent; end = reach.Failed; steps = r.steps; bytes = 0; text = text }; text = printed }))
   measured_failed None r failure line text printed is failed prints digest = tt
   measured_failed (Some m) r failure line text printed is failed prints digest =
       let made : Measured = record { row = record { parent = parent; end = reach.Failed; steps = r.steps; bytes = 0; text = text }; text = printed } in
