@@ -1,0 +1,7 @@
+pub mod Nodes
+pub mod Trees
+pub mod Differences
+pub mod Machines
+pub mod Listening
+pub mod Faults
+pub mod Courses
