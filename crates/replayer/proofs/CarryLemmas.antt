@@ -34,9 +34,9 @@ module _ (forest : ForestParts) (costs : Costs) (allowance block most : ℕ) (pr
     here = parts_are ops i ∙ ap (λ rest. take i ops ++ rest) (next_is ops i o within is ∙ ap (λ x. x ∷ drop (i + 1) ops) h.0.1);
     before = λ files has w done. ((g.tells files has).1.computed w done).1;
     differs = differs_as costs v v d
-      (λ row. (m : Machine) → Tells forest allowance live stock.told m.live → Legal (tree_of costs stock.block) stock.most o m → IsRowAt forest allowance v row)
-      (λ row. (files : List (ℕ × List ℕ)) → told ≡ Some files → IsRowAt forest allowance v row)
-      refl (λ row p files has. p g.m (g.tells files has).0 legal) h.1;
+        (λ row. (m : Machine) → Tells forest allowance live stock.told m.live → Legal (tree_of costs stock.block) stock.most o m → IsRowAt forest allowance v row)
+        (λ row. (files : List (ℕ × List ℕ)) → told ≡ Some files → IsRowAt forest allowance v row)
+        refl (λ row p files has. p g.m (g.tells files has).0 legal) h.1;
   }
 
   never_damaged : (v : ℕ) → Damaging costs forest allowance live stock o v → (files : List (ℕ × List ℕ)) → told ≡ Some files → ⊥
@@ -54,8 +54,8 @@ module _ (forest : ForestParts) (costs : Costs) (allowance block most : ℕ) (pr
   leaves a b x y e h =
       subst (StopsAt e) (sym (next_is ops i o within is))
       (leaves_off o (drop (i + 1) ops) e (Rose a b) (Rose x y)
-        (λ v d. DiffersBy costs v d (λ row. (m : Machine) → Tells forest allowance live stock.told m.live → Legal (tree_of costs stock.block) stock.most o m → IsRowAt forest allowance v row))
-        (λ v. (m : Machine) → Tells forest allowance live stock.told m.live → ⊥) h)
+      (λ v d. DiffersBy costs v d (λ row. (m : Machine) → Tells forest allowance live stock.told m.live → Legal (tree_of costs stock.block) stock.most o m → IsRowAt forest allowance v row))
+      (λ v. (m : Machine) → Tells forest allowance live stock.told m.live → ⊥) h)
 
   pub steps_on : (before old now : ℕ) → old + steps_in_all (drop i ops) ≡ before + steps_in_all ops → ((m : Machine) → Legal (tree_of costs stock.block) stock.most o m → now ≡ old + steps_in o)
       → now + steps_in_all (drop (i + 1) ops) ≡ before + steps_in_all ops

@@ -123,12 +123,12 @@ module _ (forest : ForestParts) (costs : Costs) (allowance block most : ℕ) (pr
         legal = all.1;
         ends = sym (ap (λ os. after_all (tree_of costs block) prices os g.m) next) ∙ g.ends;
         tells = λ files has.
-          let old = g.tells files has in
-          let new = s.telling g.m prices old.0 legal in (
-            subst (λ b. Tells forest allowance now stock_now.told (after (tree_of costs b) prices o g.m).live) g.block_is new.0,
-            subst (λ os. Printed forest costs allowance os texts_now) (sym (done_is ops i o within is))
-            (printed_more forest costs allowance (take i ops) o texts texts_now g.many fines.0 old.1 new.1),
-          );
+            let old = g.tells files has in
+            let new = s.telling g.m prices old.0 legal in (
+              subst (λ b. Tells forest allowance now stock_now.told (after (tree_of costs b) prices o g.m).live) g.block_is new.0,
+              subst (λ os. Printed forest costs allowance os texts_now) (sym (done_is ops i o within is))
+                  (printed_more forest costs allowance (take i ops) o texts texts_now g.many fines.0 old.1 new.1),
+            );
         fine = fines.1;
         block_is = s.block_is ∙ g.block_is;
         most_is = s.most_is ∙ g.most_is;

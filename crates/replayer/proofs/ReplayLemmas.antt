@@ -104,9 +104,9 @@ first_as forest costs allowance told before os all v d still list f = record {
   here = sym list ∙ f.here;
   before = λ files has w done. f.before [] (still files has) w done;
   differs = differs_as costs v v d
-    (λ row. (files : List (ℕ × List ℕ)) → told ≡ Some files → IsRowAt forest allowance v row)
-    (λ row. (files : List (ℕ × List ℕ)) → before ≡ Some files → IsRowAt forest allowance v row)
-    refl (λ row p files has. p [] (still files has)) f.differs;
+      (λ row. (files : List (ℕ × List ℕ)) → told ≡ Some files → IsRowAt forest allowance v row)
+      (λ row. (files : List (ℕ × List ℕ)) → before ≡ Some files → IsRowAt forest allowance v row)
+      refl (λ row p files has. p [] (still files has)) f.differs;
 }
 
 pub not_told : (told before : Option (List (ℕ × List ℕ))) → ((files : List (ℕ × List ℕ)) → before ≡ Some files → told ≡ Some []) → ((files : List (ℕ × List ℕ)) → told ≡ Some files → ⊥) → before ≡ None

@@ -84,8 +84,12 @@ module _ (costs : Costs) (forest : ForestParts) (live : Option MachineState) (st
         let deep = here.2 in
         subst (λ x. Stands forest costs now stock (after (tree_of costs stock.block) prices x m)) (sym is)
         (record {
-          live_is = (state_in forest allowance v here.0, did.live_is, omega (arith, more, deep),
-            λ fresh row at done. size_of_result (length here.0.ran + 1) (ran_in forest allowance v here.0) (state_in forest allowance v here.0) row (did.row_is row at) done);
+          live_is = (
+            state_in forest allowance v here.0,
+            did.live_is,
+            omega (arith, more, deep),
+            λ fresh row at done. size_of_result (length here.0.ran + 1) (ran_in forest allowance v here.0) (state_in forest allowance v here.0) row (did.row_is row at) done,
+          );
           held_is = s.held_is;
           peak_is = s.peak_is;
           once = s.once;
@@ -129,9 +133,12 @@ module _ (costs : Costs) (forest : ForestParts) (live : Option MachineState) (st
   unfolding tree_of
   room_there v b is stocked done s legal =
       let here = just_computed v b is s legal in
-      let l = legal_as (Checkpoint v b) is legal in
-      (here.0, here.1, λ passes. no_room stock.most (blocks_held stock.held) (sum_by (blocks_of costs stock.block) m.stored) (div_ceil (length passes.0) stock.block) (blocks_of costs stock.block v) b
-        (held_sum s) (blocks_are v b is stocked done legal here.0 here.2 passes.0 passes.1) l.3 l.4 passes.2)
+      let l = legal_as (Checkpoint v b) is legal in (
+        here.0,
+        here.1,
+        λ passes. no_room stock.most (blocks_held stock.held) (sum_by (blocks_of costs stock.block) m.stored) (div_ceil (length passes.0) stock.block) (blocks_of costs stock.block v) b
+            (held_sum s) (blocks_are v b is stocked done legal here.0 here.2 passes.0 passes.1) l.3 l.4 passes.2,
+      )
 
   pub put_stands : (v b : ℕ) (prices : Prices) (now : Option MachineState) (stock_now : Stock) → o ≡ Checkpoint v b → IsStock stock → IsDone costs v
       → ((s : MachineState) → live ≡ Some s → PutsSnapshot s v stock stock_now) → now ≡ live → Stands forest costs live stock m → Legal (tree_of costs stock.block) stock.most o m

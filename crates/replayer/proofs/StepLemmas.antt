@@ -49,10 +49,12 @@ module _ (costs : Costs) (forest : ForestParts) (allowance : ℕ) (live : Option
       → Tells forest allowance live stock.told m.live
       → Tells forest allowance now stock_now.told (after (tree_of costs stock.block) prices o m).live × PrintsSo forest costs allowance o texts texts
   restore_tells v now stock_now texts program is loaded same got t =
-      subst (After now stock_now texts texts) (sym is)
-      (subst (λ (k : Stock). Tells forest allowance now k.told (Some v)) (sym same)
-        (told_restore forest allowance v live now stock.told m.live
-          (subst (λ p. IfSome stock.told (Got p now v)) loaded got) t), refl)
+      subst (After now stock_now texts texts) (sym is) (
+        subst (λ (k : Stock). Tells forest allowance now k.told (Some v)) (sym same)
+            (told_restore forest allowance v live now stock.told m.live
+            (subst (λ p. IfSome stock.told (Got p now v)) loaded got) t),
+        refl,
+      )
 
   pub evict_tells : (v : ℕ) (stock_now : Stock) (texts : List (List ℕ)) → o ≡ Evict v → stock_now ≡ with_evict v stock → Tells forest allowance live stock.told m.live
       → Tells forest allowance live stock_now.told (after (tree_of costs stock.block) prices o m).live × PrintsSo forest costs allowance o texts texts

@@ -85,22 +85,23 @@ module _ (costs : Costs) (forest : ForestParts) (allowance : ℕ) (live : Option
       → (v ≡ node) × DiffersBy costs node d (λ row. (s : MachineState) → live ≡ Some s → IsRowIn forest allowance node s row) → Differing v d
   compute_differs sound is_tree node n is reached v d h =
       let here : o ≡ Compute v n = is ∙ ap (λ x. Compute x n) (sym h.0) in
-      let reached_v : IsReached costs v = subst (IsReached costs) (sym h.0) reached in
-      ((n, here),
+      let reached_v : IsReached costs v = subst (IsReached costs) (sym h.0) reached in (
+        (n, here),
         differs_as costs v node d (λ row. (s : MachineState) → live ≡ Some s → IsRowIn forest allowance node s row)
-        (λ row. (m : Machine) → Tells forest allowance live stock.told m.live → Legal (tree_of costs stock.block) stock.most o m → IsRowAt forest allowance v row)
-        (sym h.0)
-        (λ row p m t legal.
-          let a = alike_live forest allowance live (tree.parent_of forest v) m.live (live_above costs forest live stock m o sound is_tree v n here reached_v legal) t.live_is in
-          row_at forest allowance costs sound is_tree v reached_v a.0 row a.2 (subst (λ x. IsRowIn forest allowance x a.0 row) (sym h.0) (p a.0 a.1)))
-        h.1)
+            (λ row. (m : Machine) → Tells forest allowance live stock.told m.live → Legal (tree_of costs stock.block) stock.most o m → IsRowAt forest allowance v row)
+            (sym h.0)
+            (λ row p m t legal.
+            let a = alike_live forest allowance live (tree.parent_of forest v) m.live (live_above costs forest live stock m o sound is_tree v n here reached_v legal) t.live_is in
+            row_at forest allowance costs sound is_tree v reached_v a.0 row a.2 (subst (λ x. IsRowIn forest allowance x a.0 row) (sym h.0) (p a.0 a.1)))
+            h.1,
+      )
 
   pub restore_damages : (program : Program) → program ≡ program_of forest → (node : ℕ) → o ≡ Restore node → (v : ℕ)
       → (v ≡ node) × IfSome stock.told (Hurt program (depth_at forest node) node) → Damaging v
   restore_damages program loaded node is v h = (
     is ∙ ap Restore (sym h.0),
     λ m t. told_whole forest allowance node live stock.told m.live
-      (subst (λ p. IfSome stock.told (Hurt p (depth_at forest node) node)) loaded h.1) t,
+        (subst (λ p. IfSome stock.told (Hurt p (depth_at forest node) node)) loaded h.1) t,
   )
 
   -- a fault of a part is one of the operation

@@ -164,8 +164,7 @@ module _ (forest : ForestParts) (allowance : ℕ) where
         let u = state_at forest allowance (tree.parent_of forest v) in
         let runs = runs_alike (program_of forest) s u v (inputs_at forest v) allowance alike in
         let same : ran_in forest allowance v s ≡ result_at forest allowance v = sym runs.0 ∙ sym (result_is forest allowance v) in
-        let prints : text ≡ text_at forest allowance v = did.text_is ∙ ap₂ cell_text (deep s alike) same in
-        (
+        let prints : text ≡ text_at forest allowance v = did.text_is ∙ ap₂ cell_text (deep s alike) same in (
           record {
             files = t.files;
             told_is = t.told_is;

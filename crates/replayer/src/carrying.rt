@@ -49,14 +49,14 @@ pub(crate) fn carry_out<K: Kernel, S: Store>(
     ensures stands { OnOk result (Stands forest.now costs.now (K.live kernel.new) (S.stock store.new) (after_all (tree_of costs.now budget.now.block) (prices_of budget.now) operations.now start)) }
     ensures tells { OnOk result ((files : List (ℕ × List ℕ)) → (S.stock store.old).told ≡ Some files
         → Tells forest.now allowance (K.live kernel.new) (S.stock store.new).told (after_all (tree_of costs.now budget.now.block) (prices_of budget.now) operations.now start).live
-            × Printed forest.now costs.now allowance operations.now texts.new) }
+        × Printed forest.now costs.now allowance operations.now texts.new) }
     ensures texts { OnOk result (length texts.new ≡ length costs.now.rows) }
     ensures steps { OnOk result (K.steps kernel.new ≡ K.steps kernel.old + steps_in_all operations.now) }
     ensures loaded { K.loaded kernel.new ≡ K.loaded kernel.old }
     ensures limits { ((S.stock store.new).block ≡ budget.now.block) × ((S.stock store.new).most ≡ budget.now.most) }
     ensures listeners { (done : Ops) × (rest : Ops) × (operations.now ≡ done ++ rest) × LeavesOff result rest
         × TellsAllBy (λ b. record { heard = (⟦<dyn Tap as Tap>⟧ b.vtable).heard b.value; faults = (⟦<dyn Tap as Tap>⟧ b.vtable).faults b.value; wants = (⟦<dyn Tap as Tap>⟧ b.vtable).wants b.value })
-            done taps.old.live.items taps.old.retired.items taps.new.live.items taps.new.retired.items }
+        done taps.old.live.items taps.old.retired.items taps.new.live.items taps.new.retired.items }
     ensures err { IfErr result (StopsSo (Rose (K.faults kernel.old) (K.faults kernel.new)) (Rose (S.faults store.old) (S.faults store.new))
         (λ v d. IsFirstToDiffer forest.now costs.now allowance (S.stock store.old).told operations.now v d)
         (λ v. (files : List (ℕ × List ℕ)) → (S.stock store.old).told ≡ Some files → ⊥)) }

@@ -8,11 +8,20 @@ use plan_type::{Reach, Row};
 #[derive(Clone, Copy, Debug, PartialEq, Eq)]
 pub enum Difference {
     /// How the cell ended.
-    End { recorded: Reach, measured: Reach },
+    End {
+        recorded: Reach,
+        measured: Reach,
+    },
     /// The steps that the cell took.
-    Steps { recorded: u64, measured: u64 },
+    Steps {
+        recorded: u64,
+        measured: u64,
+    },
     /// The bytes of the snapshot after the cell.
-    Bytes { recorded: u64, measured: u64 },
+    Bytes {
+        recorded: u64,
+        measured: u64,
+    },
     /// The SHA-256 digest of what the cell prints.
     Text {
         recorded: [u8; 32],

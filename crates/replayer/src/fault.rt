@@ -12,7 +12,9 @@ pub enum ReplayFault {
     StoreFailed,
     /// What the store gave for the node is no snapshot of it. It never comes over a store that
     /// tells its bytes.
-    Damaged { node: NodeId },
+    Damaged {
+        node: NodeId,
+    },
     /// The node's recorded row is not the measured one: the first field in which they differ.
     Differs {
         node: NodeId,

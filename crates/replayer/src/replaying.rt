@@ -89,7 +89,7 @@ pub fn replay<K: Kernel, S: Store>(
     // which the replay stopped.
     ensures listeners { (done : Ops) × (rest : Ops) × (operations_of costs.now budget.now plan.now ≡ done ++ rest) × LeavesOff result rest
         × TellsAllBy (λ b. record { heard = (⟦<dyn Tap as Tap>⟧ b.vtable).heard b.value; faults = (⟦<dyn Tap as Tap>⟧ b.vtable).faults b.value; wants = (⟦<dyn Tap as Tap>⟧ b.vtable).wants b.value })
-            done taps.old.live.items taps.old.retired.items taps.new.live.items taps.new.retired.items }
+        done taps.old.live.items taps.old.retired.items taps.new.live.items taps.new.retired.items }
 
     // Why it stops.
     ensures differs { (v : ℕ) (d : ADifference) → result ≡ Err (ReplayFault.Differs v d)

@@ -170,7 +170,7 @@ pub(crate) fn step<K: Kernel, S: Store>(
     ensures told { OnOk result ((m : Machine) (prices : Prices) → Tells forest.now allowance (K.live kernel.old) (S.stock store.old).told m.live
         → Legal (tree_of costs.now (S.stock store.old).block) (S.stock store.old).most operation m
         → Tells forest.now allowance (K.live kernel.new) (S.stock store.new).told (after (tree_of costs.now (S.stock store.old).block) prices operation m).live
-            × PrintsSo forest.now costs.now allowance operation texts.old texts.new) }
+        × PrintsSo forest.now costs.now allowance operation texts.old texts.new) }
     ensures texts { OnOk result (length texts.new ≡ length texts.old) }
     ensures steps { OnOk result ((m : Machine) → Legal (tree_of costs.now (S.stock store.old).block) (S.stock store.old).most operation m
         → K.steps kernel.new ≡ K.steps kernel.old + steps_in operation) }
@@ -178,7 +178,7 @@ pub(crate) fn step<K: Kernel, S: Store>(
     ensures limits { ((S.stock store.new).block ≡ (S.stock store.old).block) × ((S.stock store.new).most ≡ (S.stock store.old).most) }
     ensures err { IfErr result (StopsSo (Rose (K.faults kernel.old) (K.faults kernel.new)) (Rose (S.faults store.old) (S.faults store.new))
         (λ v d. ((n : ℕ) × (operation ≡ Operation.Compute v n)) × DiffersBy costs.now v d (λ row. (m : Machine) → Tells forest.now allowance (K.live kernel.old) (S.stock store.old).told m.live
-            → Legal (tree_of costs.now (S.stock store.old).block) (S.stock store.old).most operation m → IsRowAt forest.now allowance v row))
+        → Legal (tree_of costs.now (S.stock store.old).block) (S.stock store.old).most operation m → IsRowAt forest.now allowance v row))
         (λ v. (operation ≡ Operation.Restore v) × ((m : Machine) → Tells forest.now allowance (K.live kernel.old) (S.stock store.old).told m.live → ⊥))) }
     ensures later { K.faults kernel.old ≤ K.faults kernel.new }
     ensures store_later { S.faults store.old ≤ S.faults store.new }

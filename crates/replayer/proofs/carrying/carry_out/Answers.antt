@@ -75,8 +75,13 @@ pub returns-in-Err-clause-loaded : goal.returns-in-Err-clause-loaded
 returns-in-Err-clause-loaded g c = c.in-Err.ensures.loaded ∙ c.loop-operation.invariant.loaded ∙ sym c.requires.loaded
 
 pub returns-in-Err-clause-listeners : goal.returns-in-Err-clause-listeners
-returns-in-Err-clause-listeners g c = (take c.loop-operation.operation-index c.args.operations.now, drop c.loop-operation.operation-index c.args.operations.now, parts_are c.args.operations.now c.loop-operation.operation-index,
-    leaves c.args.forest.now c.args.costs.now c.args.allowance c.args.budget.now.block c.args.budget.now.most (prices_of c.args.budget.now) c.args.operations.now (g.S.Store.stock c.args.store.now).told c.loop-operation.operation-index c.operation-item.result (g.K.Kernel.live c.loop-operation.kernel) (g.S.Store.stock c.loop-operation.store) c.loop-operation.texts c.loop-operation-test.true c.operation-item.is c.loop-operation.invariant.going (g.K.Kernel.faults c.loop-operation.kernel) (g.K.Kernel.faults c.step.new.kernel) (g.S.Store.faults c.loop-operation.store) (g.S.Store.faults c.step.new.store) c.in-Err.fault c.in-Err.ensures.err, c.loop-operation.invariant.heard)
+returns-in-Err-clause-listeners g c = (
+  take c.loop-operation.operation-index c.args.operations.now,
+  drop c.loop-operation.operation-index c.args.operations.now,
+  parts_are c.args.operations.now c.loop-operation.operation-index,
+  leaves c.args.forest.now c.args.costs.now c.args.allowance c.args.budget.now.block c.args.budget.now.most (prices_of c.args.budget.now) c.args.operations.now (g.S.Store.stock c.args.store.now).told c.loop-operation.operation-index c.operation-item.result (g.K.Kernel.live c.loop-operation.kernel) (g.S.Store.stock c.loop-operation.store) c.loop-operation.texts c.loop-operation-test.true c.operation-item.is c.loop-operation.invariant.going (g.K.Kernel.faults c.loop-operation.kernel) (g.K.Kernel.faults c.step.new.kernel) (g.S.Store.faults c.loop-operation.store) (g.S.Store.faults c.step.new.store) c.in-Err.fault c.in-Err.ensures.err,
+  c.loop-operation.invariant.heard,
+)
 
 pub returns-in-Err-clause-err : goal.returns-in-Err-clause-err
 returns-in-Err-clause-err g c =

@@ -25,6 +25,8 @@ returns-in-None-clause-steps g c =
     steps_so c.args.costs.now c.args.node (g.K.Kernel.steps c.args.kernel.now) _ c.in-Ok.made.row c.requires.reached c.in-None.ensures c.in-Ok.ensures.steps
 
 pub returns-in-Some-clause-err : goal.returns-in-Some-clause-err
-returns-in-Some-clause-err g c =
-    (refl, differs_so c.args.forest.now c.args.allowance c.args.node (g.K.Kernel.loaded c.args.kernel.now) c.inputs-inputs.result.now c.parent-parent.result (c.depth.result + 1) (g.K.Kernel.live c.args.kernel.now) c.in-Ok.made
-    c.requires.loaded (inputs_are c.args.forest.now c.args.node c.inputs-inputs.result.now c.inputs-inputs.ensures) (ap (λ n. n + 1) c.depth.ensures) c.in-Ok.ensures.measured c.args.costs.now c.in-Some.difference c.in-Some.ensures)
+returns-in-Some-clause-err g c = (
+  refl,
+  differs_so c.args.forest.now c.args.allowance c.args.node (g.K.Kernel.loaded c.args.kernel.now) c.inputs-inputs.result.now c.parent-parent.result (c.depth.result + 1) (g.K.Kernel.live c.args.kernel.now) c.in-Ok.made
+      c.requires.loaded (inputs_are c.args.forest.now c.args.node c.inputs-inputs.result.now c.inputs-inputs.ensures) (ap (λ n. n + 1) c.depth.ensures) c.in-Ok.ensures.measured c.args.costs.now c.in-Some.difference c.in-Some.ensures,
+)

@@ -67,14 +67,14 @@ pub returns-in-Checkpoint-clause-stands : goal.returns-in-Checkpoint-clause-stan
 returns-in-Checkpoint-clause-stands g c =
     both_ok c.checkpoint.result
     (λ put same m prices s legal. put_stands c.args.costs.now c.args.forest.now (g.K.Kernel.live c.args.kernel.now) (g.S.Store.stock c.args.store.now) m c.args.operation c.in-Checkpoint.node c.in-Checkpoint.blocks prices
-      (g.K.Kernel.live c.checkpoint.new.kernel) (g.S.Store.stock c.checkpoint.new.store) c.in-Checkpoint.is (g.met.S.Store.kept c.args.store.now) (subst (IsFine c.args.costs.now) c.in-Checkpoint.is c.requires.fine) put same s legal)
+    (g.K.Kernel.live c.checkpoint.new.kernel) (g.S.Store.stock c.checkpoint.new.store) c.in-Checkpoint.is (g.met.S.Store.kept c.args.store.now) (subst (IsFine c.args.costs.now) c.in-Checkpoint.is c.requires.fine) put same s legal)
     c.checkpoint.ensures.put c.checkpoint.ensures.live
 
 pub returns-in-Restore-clause-stands : goal.returns-in-Restore-clause-stands
 returns-in-Restore-clause-stands g c =
     ok_with c.restore.result
     (λ went m prices s legal. restore_stands c.args.costs.now c.args.forest.now (g.K.Kernel.live c.args.kernel.now) (g.S.Store.stock c.args.store.now) m c.args.operation c.in-Restore.node prices
-      (g.K.Kernel.live c.restore.new.kernel) (g.S.Store.stock c.restore.new.store) c.in-Restore.is went c.restore.ensures.store s)
+    (g.K.Kernel.live c.restore.new.kernel) (g.S.Store.stock c.restore.new.store) c.in-Restore.is went c.restore.ensures.store s)
     c.restore.ensures.live
 
 pub returns-in-Ok-evict-clause-stands : goal.returns-in-Ok-evict-clause-stands
@@ -96,14 +96,14 @@ pub returns-in-Checkpoint-clause-told : goal.returns-in-Checkpoint-clause-told
 returns-in-Checkpoint-clause-told g c =
     both_ok c.checkpoint.result
     (λ put same m prices t legal. checkpoint_tells c.args.costs.now c.args.forest.now c.args.allowance (g.K.Kernel.live c.args.kernel.now) (g.S.Store.stock c.args.store.now) m prices c.args.operation c.in-Checkpoint.node c.in-Checkpoint.blocks
-      (g.K.Kernel.live c.checkpoint.new.kernel) (g.S.Store.stock c.checkpoint.new.store) c.args.texts.now (g.K.Kernel.loaded c.args.kernel.now) c.in-Checkpoint.is c.requires.loaded (g.met.K.Kernel.valid c.args.kernel.now) same put t legal)
+    (g.K.Kernel.live c.checkpoint.new.kernel) (g.S.Store.stock c.checkpoint.new.store) c.args.texts.now (g.K.Kernel.loaded c.args.kernel.now) c.in-Checkpoint.is c.requires.loaded (g.met.K.Kernel.valid c.args.kernel.now) same put t legal)
     c.checkpoint.ensures.put c.checkpoint.ensures.live
 
 pub returns-in-Restore-clause-told : goal.returns-in-Restore-clause-told
 returns-in-Restore-clause-told g c =
     ok_with c.restore.result
     (λ got m prices t legal. restore_tells c.args.costs.now c.args.forest.now c.args.allowance (g.K.Kernel.live c.args.kernel.now) (g.S.Store.stock c.args.store.now) m prices c.args.operation c.in-Restore.node
-      (g.K.Kernel.live c.restore.new.kernel) (g.S.Store.stock c.restore.new.store) c.args.texts.now (g.K.Kernel.loaded c.args.kernel.now) c.in-Restore.is c.requires.loaded c.restore.ensures.store got t)
+    (g.K.Kernel.live c.restore.new.kernel) (g.S.Store.stock c.restore.new.store) c.args.texts.now (g.K.Kernel.loaded c.args.kernel.now) c.in-Restore.is c.requires.loaded c.restore.ensures.store got t)
     c.restore.ensures.told
 
 pub returns-in-Ok-evict-clause-told : goal.returns-in-Ok-evict-clause-told
