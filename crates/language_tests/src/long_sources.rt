@@ -3,14 +3,17 @@
 //! The tokens, the tree, the places of its names and its spelling are found by loops over each
 //! chain. A call for each link would take the stack.
 
+ghost use Rattle.star_syntax.specs.Nesting.{IsEnded, IsShallow};
+
+use crate::fault::Fault;
+use crate::report::Report;
+use crate::{parser, tokens};
 use chex_base::{NoMemory, Text};
 use star_lexer::lex;
 use star_parser::parse;
 use star_resolver::resolve;
-use star_syntax::spell;
+use star_syntax::{Cell, Spanned, spell};
 use std::alloc::Global;
-use std::process::Abort;
-use std::test::Fail;
 
 /// A chain: what stands before the piece that is repeated, the piece, and what stands after it.
 type Chain = (&'static str, &'static str, &'static str);
@@ -113,72 +116,159 @@ fn blocks(alloc: Global, header: &str) -> Result<String, NoMemory> {
     Ok(out)
 }
 
-/// How far a source is read.
-fn read(alloc: Global, source: &str) -> Result<&'static str, Fail> {
+/// The cell of tokens of a source.
+fn cell_of(alloc: Global, source: &str, tokens: &[Spanned]) -> Result<Cell, Fault>
+    requires nested { IsShallow tokens.now }
+    requires ended { IsEnded tokens.now }
+{
+    let text = Text::from_str(alloc, source)?;
+    let tree = parse(alloc, tokens)?;
+    Ok(resolve(alloc, text, tree)?)
+}
+
+/// How many tokens a copy of a cell is spelled with.
+fn spelled(alloc: Global, cell: &Cell) -> Result<usize, Fault> {
+    let copy = cell.copy(alloc)?;
+    let tokens = spell(alloc, copy.module())?;
+    Ok(tokens.as_slice().len())
+}
+
+/// Whether a source is read, and spelled back with as many tokens.
+fn is_spelled_back(alloc: Global, source: &str) -> Result<bool, Fault> {
     if source.len() > 65_536 {
-        return Ok("too long");
+        return Err(Fault::Unread);
     }
-    let Ok(tokens) = lex(alloc, source) else {
-        return Ok("no tokens");
-    };
-    let Ok(tree) = parse(alloc, tokens.as_slice()) else {
-        return Ok("no tree");
-    };
-    let Ok(cell) = resolve(alloc, Text::from_str(alloc, source)?, tree) else {
-        return Ok("misplaced");
-    };
-    let spelt = spell(alloc, cell.copy(alloc)?.module())?;
-    if spelt.as_slice().len() == tokens.as_slice().len() {
-        Ok("spelled back")
-    } else {
-        Ok("other tokens")
-    }
+    let tokens = lex(alloc, source)?;
+    let cell = cell_of(alloc, source, tokens.as_slice())?;
+    Ok(spelled(alloc, &cell)? == tokens.as_slice().len())
+}
+
+/// The source of a piece is spelled back.
+fn note(alloc: Global, report: &mut Report, piece: &str, source: &str) -> Result<(), Fault> {
+    let found = is_spelled_back(alloc, source).unwrap_or(false);
+    report.note(piece, found)
 }
 
 /// Each chain is read and spelled back.
-fn check_chains(rt: &impl Abort, alloc: Global, chains: &[Chain]) -> Result<(), Fail> {
+fn check_chains(alloc: Global, report: &mut Report, chains: &[Chain]) -> Result<(), Fault> {
     for (before, piece, after) in chains {
         let source = chain(alloc, before, piece, after)?;
-        assert_eq!(rt; read(alloc, source.as_str())?, "spelled back", "{}", *piece);
+        note(alloc, report, piece, source.as_str())?;
     }
     Ok(())
 }
 
-#[test]
-fn long_operators(rt: HostRuntime) -> Result<(), Fail> {
-    check_chains(&rt, rt.alloc(), &OPERATORS)
-}
-
-#[test]
-fn long_conditionals_and_suffixes(rt: HostRuntime) -> Result<(), Fail> {
-    check_chains(&rt, rt.alloc(), &CONDITIONALS_AND_SUFFIXES)
-}
-
-#[test]
-fn long_lists(rt: HostRuntime) -> Result<(), Fail> {
-    check_chains(&rt, rt.alloc(), &LISTS)
-}
-
-#[test]
-fn long_cells(rt: HostRuntime) -> Result<(), Fail> {
-    check_chains(&rt, rt.alloc(), &STATEMENTS)
-}
-
-#[test]
-fn deep_nests(rt: HostRuntime) -> Result<(), Fail> {
-    let alloc = rt.alloc();
+/// Each nest is read and spelled back.
+fn check_nests(alloc: Global, report: &mut Report) -> Result<(), Fault> {
     for (open, inner, close) in &NESTS {
         let source = nest(alloc, open, inner, close)?;
-        assert_eq!(rt; read(alloc, source.as_str())?, "spelled back", "{}", *open);
-    }
-    for header in &BLOCKS {
-        let source = blocks(alloc, header)?;
-        assert_eq!(rt;
-            read(alloc, source.as_str())?,
-            "spelled back",
-            "{}",
-            *header
-        );
+        note(alloc, report, open, source.as_str())?;
     }
     Ok(())
+}
+
+/// Blocks that nest are read and spelled back.
+fn check_blocks(alloc: Global, report: &mut Report) -> Result<(), Fault> {
+    for header in &BLOCKS {
+        let source = blocks(alloc, header)?;
+        note(alloc, report, header, source.as_str())?;
+    }
+    Ok(())
+}
+
+/// The longest sources of one character: what stands before it, the character, how often it
+/// stands, and the number of the tokens or the fault.
+const LONGEST: [(&str, &str, usize, &str); 6] = [
+    ("", " ", 65_536, "1"),
+    ("", "\n", 65_536, "1"),
+    ("x", "#", 65_535, "3"),
+    ("", "+", 65_536, "65538"),
+    ("", "x", 65_536, "3"),
+    ("'", "a", 65_535, "OpenString at line 1"),
+];
+
+/// The longest sources have so many tokens.
+fn check_longest(alloc: Global, report: &mut Report) -> Result<(), Fault> {
+    for (start, piece, times, wanted) in &LONGEST {
+        let mut source = String::from_str(alloc, start)?;
+        add_times(&mut source, piece, *times)?;
+        let found = tokens::count(alloc, source.as_str())?;
+        report.note(piece, found.as_str() == *wanted)?;
+    }
+    Ok(())
+}
+
+/// A text of parts: the second is repeated, and so is the fourth.
+type Repeated = [&'static str; 5];
+
+/// Rows of long chains and lists, deep brackets and blocks: the row, how often its parts are
+/// repeated, and the nodes.
+const SHAPES: [(Repeated, usize, Repeated); 3] = [
+    // A long chain is one node.
+    (
+        ["a ", "+ a ", "", "", "NL END"],
+        999,
+        ["(Line 1:(Tests (Sum a", " Add a", "", "", ")))"],
+    ),
+    // A long list is one node.
+    (
+        ["[ ", "a , ", "", "", "] NL END"],
+        3000,
+        ["(Line 1:(Tests (List", " a", "", "", " ,)))"],
+    ),
+    // Deep brackets are one node a bracket.
+    (
+        ["", "( ", "a ", ") ", "NL END"],
+        32,
+        ["(Line 1:(Tests", " (Paren", " a", ")", "))"],
+    ),
+];
+
+/// Deep blocks.
+const DEEP_BLOCKS: Repeated = ["", "if a : NL IN ", "b NL ", "DE ", "END"];
+
+fn repeated(alloc: Global, parts: &Repeated, times: usize) -> Result<String, NoMemory> {
+    let [start, first, middle, second, end] = parts;
+    let mut out = String::from_str(alloc, start)?;
+    add_times(&mut out, first, times)?;
+    out.push_str(middle)?;
+    add_times(&mut out, second, times)?;
+    out.push_str(end)?;
+    Ok(out)
+}
+
+/// Whether a row is read as a tree that it spells.
+fn is_tree(alloc: Global, row: &str) -> Result<bool, Fault> {
+    let found = parser::answer(alloc, row)?;
+    Ok(found.as_str() == "tree")
+}
+
+/// Whether a row has these nodes.
+fn has_shape(alloc: Global, row: &str, wanted: &str) -> Result<bool, Fault> {
+    let found = parser::shape(alloc, row)?;
+    Ok(found.as_str() == wanted)
+}
+
+/// Each row is read as a tree that it spells, with its nodes.
+fn check_shapes(alloc: Global, report: &mut Report) -> Result<(), Fault> {
+    for (row, times, nodes) in &SHAPES {
+        let row = repeated(alloc, row, *times)?;
+        let nodes = repeated(alloc, nodes, *times)?;
+        report.note("a long row", is_tree(alloc, row.as_str())?)?;
+        report.note("the nodes of a long row", has_shape(alloc, row.as_str(), nodes.as_str())?)?;
+    }
+    let row = repeated(alloc, &DEEP_BLOCKS, 32)?;
+    report.note("deep blocks", is_tree(alloc, row.as_str())?)
+}
+
+/// Long sources and deep ones are read.
+pub fn check(alloc: Global, report: &mut Report) -> Result<(), Fault> {
+    check_chains(alloc, report, &OPERATORS)?;
+    check_chains(alloc, report, &CONDITIONALS_AND_SUFFIXES)?;
+    check_chains(alloc, report, &LISTS)?;
+    check_chains(alloc, report, &STATEMENTS)?;
+    check_nests(alloc, report)?;
+    check_blocks(alloc, report)?;
+    check_longest(alloc, report)?;
+    check_shapes(alloc, report)
 }

@@ -1,32 +1,19 @@
 //! Lists of tokens, with the tree that they spell or the least place with which no tree goes on.
 
 mod expression_shape;
-mod expressions;
-mod notation;
-mod shapes;
+pub mod notation;
 mod statement_shape;
-mod statements;
 
 ghost use Rattle.std.specs.Prelude.{◌≡◌, ◌+◌, ◌≤◌, IsTrue};
 ghost use Rattle.star_syntax.specs.Nesting as nesting;
 
 use self::notation::{row_of, tokens_of};
-use star_parser::{ParseFault, parse};
+use self::statement_shape::shape_of;
+use crate::fault::Fault;
+use chex_base::Text;
+use star_parser::{ParseFault, one_tree, parse};
 use star_syntax::{Mark, Module, Spanned, Token, spell};
 use std::alloc::Global;
-use std::process::Abort;
-use std::test::Fail;
-
-/// What tokens are read as.
-#[derive(Clone, Copy, Debug, PartialEq, Eq)]
-pub enum Answer {
-    /// A tree that these tokens spell.
-    Tree,
-    /// No tree: the place of the first token with which none goes on.
-    At(usize),
-    /// A tree that other tokens spell.
-    Other,
-}
 
 /// The open brackets and the open columns after one more token.
 fn after_token(token: &Token, brackets: usize, columns: usize) -> (usize, usize)
@@ -62,40 +49,57 @@ fn is_shallow(tokens: &[Spanned]) -> bool
 }
 
 /// The tree of tokens, of which the last must be End and at most 32 brackets and columns be open.
-pub fn read(alloc: Global, tokens: &[Spanned]) -> Result<Result<Module, ParseFault>, Fail> {
+fn read(alloc: Global, tokens: &[Spanned]) -> Result<Result<Module, ParseFault>, Fault> {
     let Some((last, _)) = tokens.split_last() else {
-        return Err(Fail::from("no token"));
+        return Err(Fault::Unread);
     };
     let Token::End = &last.token else {
-        return Err(Fail::from("no END"));
+        return Err(Fault::Unread);
     };
     if !is_shallow(tokens) {
-        return Err(Fail::from("nested too deep"));
+        return Err(Fault::Unread);
     }
     Ok(parse(alloc, tokens))
 }
 
 /// What the tokens of a row are read as.
-pub fn answer_to(alloc: Global, row: &str) -> Result<Answer, Fail> {
+fn read_row(alloc: Global, row: &str) -> Result<Result<Module, ParseFault>, Fault> {
     let tokens = tokens_of(alloc, row)?;
-    match read(alloc, tokens.as_slice())? {
+    read(alloc, tokens.as_slice())
+}
+
+/// The row of the tokens that a tree is spelled with.
+fn spelled(alloc: Global, tree: &Module) -> Result<Text, Fault> {
+    let tokens = spell(alloc, tree)?;
+    Ok(row_of(alloc, tokens.as_slice())?)
+}
+
+/// Whether a row is the spelling of a tree.
+fn is_spelling(alloc: Global, row: &str, tree: &Module) -> Result<bool, Fault> {
+    let words = spelled(alloc, tree)?;
+    Ok(words.as_str() == row)
+}
+
+/// Whether tokens spell the tree that they are read as, or the place with which no tree goes on.
+pub fn answer(alloc: Global, row: &str) -> Result<String, Fault> {
+    match read_row(alloc, row)? {
         Ok(tree) => {
-            let spelt = row_of(alloc, spell(alloc, &tree)?.as_slice())?;
-            if spelt.as_str() == row {
-                Ok(Answer::Tree)
+            let found = if is_spelling(alloc, row, &tree)? {
+                "tree"
             } else {
-                Ok(Answer::Other)
-            }
+                "a tree that other tokens spell"
+            };
+            Ok(String::from_str(alloc, found)?)
         }
-        Err(ParseFault::Unexpected { place }) => Ok(Answer::At(place)),
-        Err(ParseFault::NoMemory) => Err(Fail::from("no memory")),
+        Err(ParseFault::Unexpected { place }) => Ok(format!(in alloc; "place {place}")?),
+        Err(ParseFault::NoMemory) => Err(Fault::NoMemory),
     }
 }
 
-/// Each row is read as it says.
-pub fn check_rows(rt: &impl Abort, alloc: Global, rows: &[(&str, Answer)]) -> Result<(), Fail> {
-    for (row, want) in rows {
-        assert_eq!(rt; answer_to(alloc, row)?, *want, "in {row}");
-    }
-    Ok(())
+/// The nodes of the tree of tokens.
+pub fn shape(alloc: Global, row: &str) -> Result<String, Fault> {
+    one_tree();
+    let tree = read_row(alloc, row)??;
+    let shape = shape_of(alloc, &tree)?;
+    Ok(String::from_str(alloc, shape.as_str().trim_start())?)
 }

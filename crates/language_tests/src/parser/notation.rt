@@ -63,7 +63,7 @@ const KEYWORDS: [(&str, Keyword); 16] = [
 ];
 
 /// The word of a mark.
-pub fn mark_word(mark: Mark) -> &'static str {
+fn mark_word(mark: Mark) -> &'static str {
     for (word, found) in &MARKS {
         if *found == mark {
             return word;
@@ -73,7 +73,7 @@ pub fn mark_word(mark: Mark) -> &'static str {
 }
 
 /// The word of a keyword.
-pub fn keyword_word(keyword: Keyword) -> &'static str {
+fn keyword_word(keyword: Keyword) -> &'static str {
     for (word, found) in &KEYWORDS {
         if *found == keyword {
             return word;
