@@ -255,7 +255,10 @@ fn check_shapes(alloc: Global, report: &mut Report) -> Result<(), Fault> {
         let row = repeated(alloc, row, *times)?;
         let nodes = repeated(alloc, nodes, *times)?;
         report.note("a long row", is_tree(alloc, row.as_str())?)?;
-        report.note("the nodes of a long row", has_shape(alloc, row.as_str(), nodes.as_str())?)?;
+        report.note(
+            "the nodes of a long row",
+            has_shape(alloc, row.as_str(), nodes.as_str())?,
+        )?;
     }
     let row = repeated(alloc, &DEEP_BLOCKS, 32)?;
     report.note("deep blocks", is_tree(alloc, row.as_str())?)

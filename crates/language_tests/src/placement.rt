@@ -27,8 +27,7 @@ fn reads(alloc: Global, cell: &Cell) -> Result<String, Fault> {
 }
 
 /// A function that reads the inputs `d` and `r`, and a statement after it.
-const FUNCTION: &str =
-    "def f(a, b, c=input('d')):\n for i in x:\n  return input('r')\npass\n";
+const FUNCTION: &str = "def f(a, b, c=input('d')):\n for i in x:\n  return input('r')\npass\n";
 
 /// A copy of the cell of that function. Its source is said to be `def f`.
 fn function_cell(alloc: Global) -> Result<Cell, Fault> {
@@ -41,7 +40,10 @@ fn function_cell(alloc: Global) -> Result<Cell, Fault> {
 pub fn check(alloc: Global, report: &mut Report) -> Result<(), Fault> {
     let cell = function_cell(alloc)?;
     report.note("a cell's source", cell.source().as_str() == "def f")?;
-    report.note("a cell's tree", cell.module().statements.as_slice().len() == 2)?;
+    report.note(
+        "a cell's tree",
+        cell.module().statements.as_slice().len() == 2,
+    )?;
     report.note("a cell's names", cell.inputs().as_slice().len() == 2)?;
     report.note("a cell's function", is_f(&cell))?;
     report.note("a cell's functions", cell.function(1).is_none())

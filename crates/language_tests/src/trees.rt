@@ -62,9 +62,15 @@ fn empty_cell(alloc: Global) -> Result<Cell, Fault> {
 /// A cell gives back what it was made of, and a program its cells by node.
 pub fn check(alloc: Global, report: &mut Report) -> Result<(), Fault> {
     let cell = empty_cell(alloc)?;
-    report.note("an empty cell's source", cell.source().as_str() == "# no statement")?;
+    report.note(
+        "an empty cell's source",
+        cell.source().as_str() == "# no statement",
+    )?;
     report.note("an empty cell's names", cell.inputs().as_slice().len() == 0)?;
-    report.note("an empty cell's tree", cell.module().statements.as_slice().len() == 0)?;
+    report.note(
+        "an empty cell's tree",
+        cell.module().statements.as_slice().len() == 0,
+    )?;
     report.note("an empty cell's functions", cell.function(0).is_none())?;
     check_program(alloc, report)
 }

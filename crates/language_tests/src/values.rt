@@ -129,7 +129,10 @@ fn compare_as_placed(alloc: Global, first: usize, second: usize) -> Result<bool,
 fn check_order(alloc: Global, report: &mut Report) -> Result<(), Fault> {
     for first in 0..KEYS {
         for second in 0..KEYS {
-            report.note("the order of keys", compare_as_placed(alloc, first, second)?)?;
+            report.note(
+                "the order of keys",
+                compare_as_placed(alloc, first, second)?,
+            )?;
         }
     }
     Ok(())
