@@ -1,0 +1,11 @@
+pub mod TreeLemmas
+pub mod WayLemmas
+pub mod RunLemmas
+pub mod VisitLemmas
+pub mod RowLemmas
+pub mod MeasuringLemmas
+pub mod AddLemmas
+pub mod FailedLemmas
+pub mod AgreeLemmas
+pub mod PlacedLemmas
+pub mod SoundLemmas
