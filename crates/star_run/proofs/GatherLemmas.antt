@@ -1,5 +1,5 @@
 -- What comprehensions gather is what they give, and still fits.
-use Rattle.std.proofs.Common.{◌≡◌, ℕ, List, [], ◌∷◌, ◌++◌, map, length, refl, sym, ap, ◌∙◌, arith}
+use Rattle.std.proofs.Common.{◌≡◌, ℕ, List, [], ◌∷◌, ◌++◌, map, length, refl, sym, ap, ◌∙◌, subst, arith}
 use Rattle.std.specs.Borrow.{Bor}
 use Rattle.star_syntax.specs.declared.expression.Clause.{Clause}
 use Rattle.star_syntax.specs.declared.expression.Expr.{Expr}
@@ -7,6 +7,7 @@ use Rattle.star_value.specs.declared.failure.Failure.{Failure}
 use Rattle.star_value.specs.declared.key.Key.{Key}
 use Rattle.star_value.specs.declared.value.Value.{Value}
 use Rattle.star_meaning.specs.Steps.{Went, Failed}
+use Rattle.star_meaning.specs.Validity.{MachineState}
 use Rattle.star_meaning.specs.World.{World}
 use Rattle.star_meaning.specs.Expressions.{dict_turn, list_turn}
 use Rattle.star_meaning.proofs.Alone.{LeadsOn, acting_leads, next_leads}
@@ -17,6 +18,8 @@ use Rattle.star_meaning.specs.Values.{charge_weight}
 use Rattle.star_meaning.specs.Comparing.{key_in}
 use Rattle.star_meaning.proofs.Leading.{clauses_leads, next_item_leads, value_leads}
 use Rattle.star_value.specs.Weight.{weight}
+use Rattle.star_builtins.specs.Changes.{PairsFit}
+use Rattle.star_builtins.specs.Reached.{AllFit}
 use Rattle.star_run.specs.declared.gathered.Element.{Element}
 use Rattle.star_run.specs.declared.gathered.Element.TheVariants as element
 use Rattle.star_run.specs.declared.gathered.Gathered.{Gathered}
@@ -25,7 +28,7 @@ use Rattle.star_run.specs.Gathers.{GatheredFit, gather, gathering, turn}
 use Rattle.star_run.specs.Parts.{clause_meaning, listed, paired}
 use Rattle.star_run.specs.Running.{Goes, HasCredit, IsPaid, Makes, Running}
 use Rattle.star_run.proofs.Gathering.{comprehension_lifted, lowered, lowered_failure}
-use Rattle.star_run.proofs.WaitLemmas.{all_fit_later, pairs_fit_later}
+use Rattle.star_run.proofs.WaitLemmas.{all_fit_later, no_pairs_fit, none_fit, pairs_fit_later}
 
 abbrev made : List Value → List (Key × Value) → Gathered
 made items pairs = record { items = items; pairs = pairs }
@@ -71,7 +74,7 @@ module _ (g : Fixed) (depth : ℕ) where
 
   -- ---- the turns leave what is iterated over
 
-  gather_leads : (of : Element) (a : Gathered) → LeadsOn g.node (gather g depth of a)
+  pub gather_leads : (of : Element) (a : Gathered) → LeadsOn g.node (gather g depth of a)
   unfolding list_turn dict_turn
   gather_leads (element.Item e) a =
       next_leads g.node _ _ (next_leads g.node _ _ (value_leads (setting g) depth e.now) (λ v w. leads_same g.node (a.items ++ v ∷ []) w)) (λ items w. leads_same g.node (record a { items = items }) w)
@@ -92,6 +95,12 @@ module _ (g : Fixed) (depth : ℕ) where
 
 pub gathered_later : {a b : Running} (gathered : Gathered) → Goes a b → GatheredFit a.machine gathered → GatheredFit b.machine gathered
 gathered_later {a} {b} gathered goes h = record { items = all_fit_later gathered.items goes h.items; pairs = pairs_fit_later gathered.pairs goes h.pairs }
+
+pub nothing_fits : (m : MachineState) (gathered : Gathered) → gathered.items ≡ [] → gathered.pairs ≡ [] → GatheredFit m gathered
+nothing_fits m gathered items pairs = record {
+  items = subst (λ vs. AllFit m vs) (sym items) (none_fit m);
+  pairs = subst (λ ps. PairsFit m ps) (sym pairs) (no_pairs_fit m);
+}
 
 pub credit_later : {a b : Running} → Goes a b → HasCredit a → HasCredit b
 credit_later {a} {b} goes h = omega (arith, h, goes.few, ap length goes.ran)

@@ -8,6 +8,8 @@ pub mod SignLemmas
 pub mod SeenLemmas
 pub mod ReadLemmas
 pub mod WaitLemmas
+pub mod PlaceLemmas
+pub mod TreeLemmas
 pub mod EntryLemmas
 pub mod ExpressionCases
 pub mod LoopLemmas
@@ -15,3 +17,14 @@ pub mod Gathering
 pub mod GatherLemmas
 pub mod OverLemmas
 pub mod StatementCases
+pub mod FillLemmas
+pub mod ArgumentLemmas
+pub mod CallLemmas
+pub mod EchoLemmas
+pub mod FunctionLemmas
+pub mod OwnLemmas
+pub mod CellLemmas
+pub mod CourseLemmas
+pub mod ItemLemmas
+pub mod TurnLemmas
+pub mod ClauseLemmas

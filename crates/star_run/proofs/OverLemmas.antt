@@ -58,7 +58,7 @@ module _ (here : ℕ) {A : Type 0} (turn : Value → A → Work ℕ A) (leads : 
 
 -- ---- what is left of the turns
 
-drop_at : {X : Type 0} (xs : List X) (i : ℕ) (x : X) → slice_get xs i ≡ Some x → drop i xs ≡ x ∷ drop (suc i) xs
+pub drop_at : {X : Type 0} (xs : List X) (i : ℕ) (x : X) → slice_get xs i ≡ Some x → drop i xs ≡ x ∷ drop (suc i) xs
 drop_at [] i x h = absurd (cc)
 drop_at (y ∷ ys) zero x h = let same : y ≡ x = cc in ap (λ z. z ∷ ys) same
 drop_at (y ∷ ys) (suc i) x h = drop_at ys i x h

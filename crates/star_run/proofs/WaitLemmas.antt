@@ -46,10 +46,10 @@ goes_same a = record { ran = refl; fit = λ v f. f; valid = λ program v. v; few
 pub fits_later : {a b : Running} (v : Value) → Goes a b → Fits a.machine v → Fits b.machine v
 fits_later v goes h = goes.fit v h
 
-first_fits : (m : MachineState) (v : Value) (vs : List Value) → AllFit m (v ∷ vs) → Fits m v
+pub first_fits : (m : MachineState) (v : Value) (vs : List Value) → AllFit m (v ∷ vs) → Fits m v
 first_fits m v vs h = record { references = and_left (fits m.state.objects v) (list_all (fits m.state.objects) vs) h.references; proper = and_left (is_proper v) (list_all is_proper vs) h.proper }
 
-more_fit : (m : MachineState) (v : Value) (vs : List Value) → AllFit m (v ∷ vs) → AllFit m vs
+pub more_fit : (m : MachineState) (v : Value) (vs : List Value) → AllFit m (v ∷ vs) → AllFit m vs
 more_fit m v vs h = record { references = and_right (fits m.state.objects v) (list_all (fits m.state.objects) vs) h.references; proper = and_right (is_proper v) (list_all is_proper vs) h.proper }
 
 all_fit : (m : MachineState) (v : Value) (vs : List Value) → Fits m v → AllFit m vs → AllFit m (v ∷ vs)

@@ -8,10 +8,10 @@ use Rattle.star_syntax.specs.declared.statement.Statement.{Statement}
 use Rattle.star_value.specs.declared.value.Value.{Value}
 use Rattle.star_meaning.specs.declared.flow.Flow.{Flow}
 use Rattle.star_meaning.specs.declared.flow.Flow.TheVariants as flow
-use Rattle.star_meaning.specs.Steps.{pure, ◌>>=◌}
-use Rattle.star_meaning.specs.World.{Course, Work, located}
+use Rattle.star_meaning.specs.Steps.{charge, pure, ◌>>=◌, ◌>>◌}
+use Rattle.star_meaning.specs.World.{Course, Work, acting, located}
 use Rattle.star_meaning.specs.Expressions.{Callee, Setting, next_item}
-use Rattle.star_meaning.specs.Statements.{body_of, condition_of, in_sequence, operator, statement_of}
+use Rattle.star_meaning.specs.Statements.{body_of, condition_of, in_sequence, iterated, operator, statement_of}
 use Rattle.star_run.specs.Fixed.{Fixed, callee, setting}
 use Rattle.star_run.specs.Parts.{meanings, tests}
 
@@ -29,6 +29,17 @@ module _ {C : Type 0} (set : Setting C) (call : Callee C) where
   -- statements in a block, of which none is the cell's last or has a number
   abbrev pub in_block : List Statement → Course C Flow
   in_block all = in_sequence (λ last s. statement_of set call s false None) false all
+
+  -- what a `for` goes over, with its items, after the step of the statement
+  abbrev pub iterated_at : ℕ → List Expr → Course C (Value × List Value)
+  iterated_at at over = located at (acting (charge 1) >> iterated set call over)
+
+-- how a `for` ends after a turn, where no other turn follows
+abbrev pub turn_end : Flow → Option Flow
+turn_end flow.On = None
+turn_end flow.Continue = None
+turn_end flow.Break = Some flow.On
+turn_end (flow.Return v) = Some (flow.Return v)
 
 module _ (g : Fixed) (depth : ℕ) where
   -- what the operator of `p op= t` makes of the old value

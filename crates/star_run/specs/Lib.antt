@@ -10,3 +10,8 @@ pub mod Reads
 pub mod Gathers
 pub mod Entries
 pub mod Bodies
+pub mod Nests
+pub mod Halts
+pub mod Filling
+pub mod Own
+pub mod Loops

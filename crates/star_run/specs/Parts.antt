@@ -10,10 +10,11 @@ use Rattle.star_syntax.specs.declared.expression.Named.{Named}
 use Rattle.star_syntax.specs.declared.expression.Pair.{Pair}
 use Rattle.star_syntax.specs.declared.expression.Suffix.{Suffix}
 use Rattle.star_syntax.specs.declared.expression.Suffix.TheVariants as suffix
+use Rattle.star_value.specs.declared.failure.Failure.TheVariants as failure
 use Rattle.star_value.specs.declared.key.Key.{Key}
 use Rattle.star_value.specs.declared.value.Value.{Value}
 use Rattle.star_value.specs.declared.value.Value.TheVariants as value
-use Rattle.star_meaning.specs.Steps.{Went, and_then, charge, ◌>>=◌}
+use Rattle.star_meaning.specs.Steps.{Went, and_then, charge, fail, pure, ◌>>=◌}
 use Rattle.star_meaning.specs.Values.{is_true}
 use Rattle.star_meaning.specs.Builtins.{ByName}
 use Rattle.star_meaning.specs.World.{Work, acting}
@@ -99,6 +100,13 @@ module _ (g : Fixed) (depth : ℕ) where
   -- the parts of a place
   abbrev pub place_parts : List (Suffix Expr) → Value → Work ℕ (Value × Value)
   place_parts all = parts (setting g) (callee g depth) (map suffix_meaning all)
+
+  -- the last part, with what is indexed: no place where it is no index
+  abbrev pub last_part : Suffix Expr → Value → Work ℕ (Value × Value)
+  last_part (suffix.Index at) x = (meaning g depth at).value >>= (λ i. pure (x, i))
+  last_part (suffix.Slice start stop by) x = one_suffix (suffix.Slice start stop by) x >>= (λ y. fail failure.WrongType)
+  last_part (suffix.Call given) x = one_suffix (suffix.Call given) x >>= (λ y. fail failure.WrongType)
+  last_part (suffix.Method name given) x = one_suffix (suffix.Method name given) x >>= (λ y. fail failure.WrongType)
 
   abbrev pub place_of : Expr → List (Suffix Expr) → Work ℕ (Value × Value)
   place_of head all = place (setting g) (callee g depth) (meaning g depth head) (map suffix_meaning all)

@@ -1,31 +1,35 @@
 //! The state of a running cell, and the steps that change it.
-ghost use Rattle.std.specs.Prelude.{◌≡◌, ◌≤◌, ◌<◌, ◌+◌, ◌*◌, ◌-◌, ◌^◌, min, Some, ℕ, length, List, [], ◌∷◌, ◌++◌, map, not, IsTrue, IfOk, OnOk, OnErr};
+
+mod frames;
+
+ghost use Rattle.std.specs.Prelude.{◌≡◌, ◌≤◌, ◌<◌, ◌+◌, ◌*◌, ◌-◌, ◌^◌, min, ℕ, length, [], map, IsTrue, IfOk, OnOk};
 ghost use Rattle.star_builtins.specs.Changes.{PairsFit};
 ghost use Rattle.star_builtins.specs.Reached.{AllFit, Fits, GivesWeighed, names, store};
 ghost use Rattle.star_meaning.specs.Builtins as builtins;
 ghost use Rattle.star_meaning.specs.Expressions as spec;
 ghost use Rattle.star_meaning.specs.Operators as operators;
-ghost use Rattle.star_meaning.specs.State.{function, set_global};
+ghost use Rattle.star_meaning.specs.State.{set_global};
+ghost use Rattle.star_meaning.specs.Statements as statements;
 ghost use Rattle.star_meaning.specs.Showing as showing;
 ghost use Rattle.star_meaning.specs.Steps.{Gives, Outcome, Store, pure, charge};
 ghost use Rattle.star_meaning.specs.Validity.{MachineState, all_in, is_proper};
 ghost use Rattle.star_meaning.specs.Values as values;
 ghost use Rattle.star_meaning.specs.World as steps;
-ghost use Rattle.star_meaning.specs.World.{acting, entered, lock_of, operate, operation, outermost, rebound, without_block};
+ghost use Rattle.star_meaning.specs.World.{acting, operate, operation, outermost, rebound};
 ghost use Rattle.star_value.specs.Weight.{weight};
 ghost use Rattle.star_value.specs.declared.value.Value.{Value as AValue, out-Value};
 ghost use Rattle.star_value.specs.declared.failure.Failure.{Failure as AFailure};
 ghost use Rattle.star_run.specs.Fixed.{fixed, setting};
+ghost use Rattle.star_run.specs.Own.{MakesFunction};
 ghost use Rattle.star_run.specs.Settled.{Spends, is_none_at, left_after, settled};
-ghost use Rattle.star_run.specs.Running.{Goes, HasCredit, IsPaid, Makes, block_fits, blocks_fit, world};
+ghost use Rattle.star_run.specs.Running.{Goes, HasCredit, IsPaid, Makes, world};
 
 use crate::blocks::Blocks;
 use crate::charging::{paid_copy, rest_charged};
 use crate::constants::{bool_value, builtin_value, int_value, none, text_value};
 use crate::given::Given;
 use crate::lookups::{Found, look_for};
-use crate::slots::Slots;
-use chex_base::{Input, InputItem, NoMemory, ObjectId, Text};
+use chex_base::{Input, InputItem, NoMemory, NodeId, ObjectId, Text};
 use heap_store::{Machine, Pairs};
 use sqlite_items::Items;
 use star_builtins::{
@@ -37,7 +41,6 @@ use star_syntax::{BinaryOp, CompareOp, Program, UnaryOp};
 use star_value::{Builtin, Failure, Meter, Stop, Value, Values};
 use std::alloc::Global;
 use std::marker::Model;
-use std::mem;
 
 /// All that a cell changes while it runs.
 #[derive(Drop)]
@@ -251,6 +254,25 @@ impl Run {
         ensures fits { IfOk result (λ v. Fits self.new.machine v) }
     {
         new_dict(pairs, &mut self.machine)
+    }
+
+    /// A new function of a cell, with its number there and the values of its defaults, of which all is
+    /// paid already.
+    pub fn made_function(
+        &mut self,
+        cell: NodeId,
+        number: u32,
+        defaults: Values,
+    ) -> Result<Value, Stop>
+        requires fit { AllFit self.old.machine defaults }
+        requires credit { HasCredit self.old }
+        ensures gives { Gives (acting (values.new_function cell number defaults) (world self.old)) result (world self.new) }
+        ensures made { MakesFunction cell number defaults self.old self.new }
+        ensures fits { IfOk result (λ v. Fits self.new.machine v) }
+    {
+        let id = self.machine.new_function(cell, number, defaults)?;
+        let _nodes = self.machine.ran();
+        Ok(Value::Function(id))
     }
 
     // ---- operators
@@ -492,76 +514,20 @@ impl Run {
 
     // ---- what is written
 
-    // ---- what is iterated over
-
-    /// The list or dict that a value is may not be changed from now on.
-    pub fn lock(&mut self, of: &Value) -> Result<(), NoMemory>
-        ensures ok { OnOk result (self.new ≡ record self.old { frame = record self.old.frame { locked = self.old.frame.locked ++ lock_of of.now } }) }
-        ensures err { OnErr result (self.new ≡ self.old) }
+    /// Writes a value, quoted, and a newline; the code points are charged as they are made. None is
+    /// not written.
+    pub fn echo(&mut self, given: &Given<'_>, value: &Value) -> Result<(), Stop>
+        requires { Fits self.old.machine value.now }
+        ensures gives { (call : spec.Callee ℕ) → Gives (statements.echo (setting (fixed given.now)) call value.now (world self.old)) result (world self.new) }
         ensures goes { Goes self.old self.new }
     {
-        match of {
-            Value::List(id) => self.locked.push(*id)?,
-            Value::Dict(id) => self.locked.push(*id)?,
-            _ => {}
+        if is_none(value) {
+            return Ok(());
         }
-        Ok(())
-    }
-
-    /// The list or dict that a value is was locked last, and may be changed again.
-    pub fn unlock(&mut self, of: &Value)
-        ensures gives { (before : List ℕ) → self.old.frame.locked ≡ before ++ lock_of of.now → self.new ≡ record self.old { frame = record self.old.frame { locked = before } } }
-        ensures goes { Goes self.old self.new }
-    {
-        if is_locked_by(of) {
-            let _id = self.locked.pop();
-        }
-    }
-
-    // ---- blocks of names
-
-    /// A block becomes the innermost.
-    pub fn enter_block(&mut self, block: Slots) -> Result<(), NoMemory>
-        requires { IsTrue (block_fits self.old.machine block) }
-        ensures ok { OnOk result (self.new ≡ record self.old { frame = record self.old.frame { blocks = block ∷ self.old.frame.blocks } }) }
-        ensures err { OnErr result (self.new ≡ self.old) }
-        ensures goes { Goes self.old self.new }
-    {
-        self.blocks.enter(block)?;
-        Ok(())
-    }
-
-    /// The innermost block goes.
-    pub fn leave_block(&mut self)
-        ensures gives { self.new ≡ record self.old { frame = without_block self.old.frame } }
-        ensures goes { Goes self.old self.new }
-    {
-        self.blocks.leave();
-    }
-
-    /// A function becomes active, with this block alone. The blocks that were there come back.
-    pub fn enter_function(&mut self, id: ObjectId, block: Slots) -> Result<Blocks, NoMemory>
-        requires { IsTrue (block_fits self.old.machine block) }
-        ensures ok { OnOk result (self.new ≡ record self.old { frame = entered id block self.old.frame }) }
-        ensures blocks { IfOk result (λ blocks. blocks ≡ self.old.frame.blocks) }
-        ensures fit { IfOk result (λ blocks. IsTrue (blocks_fit self.old.machine blocks)) }
-        ensures err { OnErr result (self.new ≡ self.old) }
-        ensures goes { Goes self.old self.new }
-    {
-        let mut blocks = Blocks::new(self.alloc);
-        blocks.enter(block)?;
-        self.active.push(id)?;
-        Ok(mem::replace(&mut self.blocks, blocks))
-    }
-
-    /// The function that became active last ends, and these blocks are there again.
-    pub fn leave_function(&mut self, blocks: Blocks)
-        requires { IsTrue (blocks_fit self.old.machine blocks) }
-        ensures gives { (id : ℕ) (before : List ℕ) → self.old.frame.active ≡ before ++ id ∷ [] → self.new ≡ record self.old { frame = record { blocks = blocks; active = before; locked = self.old.frame.locked } } }
-        ensures goes { Goes self.old self.new }
-    {
-        let _id = self.active.pop();
-        self.blocks = blocks;
+        let mut text = self.quoted(given.program, value)?;
+        self.charge(1)?;
+        text.push_str("\n")?;
+        self.write(&text)
     }
 
     // ---- parts of steps
@@ -745,17 +711,6 @@ fn contains(ids: &[ObjectId], id: ObjectId) -> bool
         }
     }
     false
-}
-
-/// Whether a value is a list or a dict, which is locked while it is iterated over.
-fn is_locked_by(of: &Value) -> bool
-    ensures { result ≡ not (values.is_empty (lock_of of.now)) }
-{
-    match of {
-        Value::List(_) => true,
-        Value::Dict(_) => true,
-        _ => false,
-    }
 }
 
 fn is_none(value: &Value) -> bool

@@ -1,5 +1,5 @@
 //! A block of local names.
-ghost use Rattle.std.specs.Prelude.{◌≡◌, IfOk, OnOk, OnErr, [], ◌∷◌, ◌++◌, bytes_eq};
+ghost use Rattle.std.specs.Prelude.{◌≡◌, IfOk, OnOk, OnErr, [], ◌∷◌, ◌++◌, bytes_eq, drop};
 ghost use Rattle.std.specs.Option.{option_copied};
 ghost use Rattle.star_meaning.specs.Values.{named_in};
 ghost use Rattle.star_meaning.specs.World.{unbound, bound_in, is_among};
@@ -124,6 +124,17 @@ impl Slots {
         Ok(())
     }
 
+    /// Adds the names of a layout from a place on, none of them bound. It shares the names.
+    pub fn add_unbound(&mut self, layout: &Layout, from: usize) -> Result<(), NoMemory>
+        ensures { OnOk result (self.new ≡ self.old ++ unbound (drop from layout.now)) }
+    {
+        for at in from..layout.names.len() {
+            let name = layout.names[at].clone()?;
+            self.push(name, None)?;
+        }
+        Ok(())
+    }
+
     /// What the block has at a name.
     pub fn named(&self, name: &Text) -> Option<&Option<Value>>
         ensures { option_copied result ≡ named_in self.now name.now }
@@ -150,7 +161,7 @@ impl Slots {
 }
 
 /// Whether two names are equal.
-fn same(name: &Text, other: &Text) -> bool
+pub fn same(name: &Text, other: &Text) -> bool
     ensures { result ≡ bytes_eq name.now other.now }
 {
     name == other
