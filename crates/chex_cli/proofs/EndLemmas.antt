@@ -1,125 +1,90 @@
 -- What is due, and what is left where a status is due.
-use Rattle.std.proofs.Common.{◌≡◌, ◌≢◌, ◌⊎◌, ◌+◌, ℕ, Bool, true, false, ◌&&◌, List, [], ◌∷◌, ◌++◌, Option, Some, None, Result, Ok, Err, sym, ◌∙◌, ap, subst, refl, inl, inr}
-use Rattle.std.specs.Prelude.{IfSome, option_map, option_and_then}
-use Rattle.std.specs.List.{list_all}
-use Rattle.chex_base.specs.Outside.{Rose}
+use Rattle.std.proofs.Common.{◌≡◌, ◌≢◌, ◌⊎◌, ℕ, List, Option, Some, None, Result, Ok, Err, sym, ◌∙◌, ap, subst, refl, inl, inr}
+use Rattle.std.specs.Prelude.{IfSome}
+use Rattle.std.specs.Str.{encode_utf8_all}
+use Rattle.chex_base.specs.Outside.{GrewBy, Rose}
 use Rattle.chex_base.specs.declared.status.Status.{Status}
 use Rattle.chex_base.specs.declared.status.Status.TheVariants as ended
 use Rattle.nb_reader.specs.declared.fault.NbFault.{NbFault}
 use Rattle.nb_reader.specs.declared.fault.NbFault.TheVariants as broken
-use Rattle.star_syntax.specs.CellParts.{CellParts}
-use Rattle.star_eval.specs.declared.cell.Ran.{Ran}
-use Rattle.star_eval.specs.declared.cell.End.{End}
-use Rattle.star_eval.specs.declared.cell.End.TheVariants as end
-use Rattle.star_eval.specs.State.{State}
-use Rattle.star_eval.specs.Meaning.{run_cell}
-use Rattle.star_eval.proofs.ThinRuns.{thin_runs}
 use Rattle.chex_cli.specs.declared.refusal.Refusal.{Refusal}
-use Rattle.chex_cli.specs.declared.refusal.Refusal.TheVariants.{Usage, Absent, ReadFailed, BadFile, NoMemory}
+use Rattle.chex_cli.specs.declared.refusal.Refusal.TheVariants.{Usage, Absent, ReadFailed, BadFile, BadCell, NoMemory}
 use Rattle.chex_cli.specs.declared.version.Job.{Job}
-use Rattle.chex_cli.specs.declared.checking.Runnable.{Runnable}
+use Rattle.chex_cli.specs.declared.version.Version.{Version}
+use Rattle.chex_cli.specs.declared.checking.Checked.{Checked}
 use Rattle.chex_cli.specs.Words.{command_of}
-use Rattle.chex_cli.specs.Refusals.{status_of, file_status, line_of}
-use Rattle.chex_cli.specs.Reads.{FileView, Refuses, IsCounted}
+use Rattle.chex_cli.specs.Refusals.{status_of, file_status}
+use Rattle.chex_cli.specs.Reads.{FileView, IsCounted, Refuses}
 use Rattle.chex_cli.specs.Files.{job_at}
-use Rattle.chex_cli.specs.declared.bad_cell.BadCell.{BadCell}
-use Rattle.chex_cli.specs.Jobs.{AreRunnable, IsFirstBad, is_thin_cell, is_thin_run, are_thin}
-use Rattle.chex_cli.specs.Texts.{text_by, version_text, run_text, job_text, header_if}
-use Rattle.chex_cli.specs.Ends.{IsDecided, IsDue, Yields}
-use Rattle.chex_cli.proofs.CellLemmas.{bad_apart, thin_same}
+use Rattle.chex_cli.specs.Jobs.{AreChecked, IsCellRefusal, IsFirstBad}
+use Rattle.chex_cli.specs.Stages.{IsCertain}
+use Rattle.chex_cli.specs.Texts.{job_text}
+use Rattle.chex_cli.specs.Ends.{IsDue, Ends, Yields, due, job_due, most_steps}
+use Rattle.chex_cli.proofs.OnceLemmas.{due_single}
 
-file_write_fault : (fault : NbFault) → file_status fault ≡ ended.WriteFault → ⊥
-file_write_fault broken.NotJson h = cc
-file_write_fault broken.NotObject h = cc
-file_write_fault (broken.WrongFormat found) h = cc
-file_write_fault broken.NoCells h = cc
-file_write_fault (broken.BadCell index) h = cc
-file_write_fault broken.NoVersions h = cc
-file_write_fault (broken.BadVersion index) h = cc
-file_write_fault (broken.RepeatedName name) h = cc
-file_write_fault (broken.BadInput name) h = cc
-file_write_fault (broken.TooMany what count) h = cc
-file_write_fault broken.NoMemory h = cc
+-- ---- which statuses a refusal has
+
+file_either : (fault : NbFault) → (file_status fault ≡ ended.BadFile) ⊎ (file_status fault ≡ ended.TooMany)
+file_either broken.NotJson = inl refl
+file_either broken.NotObject = inl refl
+file_either (broken.WrongFormat found) = inl refl
+file_either broken.NoCells = inl refl
+file_either (broken.BadCell index) = inl refl
+file_either broken.NoVersions = inl refl
+file_either (broken.BadVersion index) = inl refl
+file_either (broken.RepeatedName name) = inl refl
+file_either (broken.BadInput name) = inl refl
+file_either (broken.TooMany what count) = inr refl
+file_either broken.NoMemory = inl refl
+
+-- a file that is refused has none of the other statuses
+file_other : (fault : NbFault) (status : Status) → file_status fault ≡ status → status ≢ ended.BadFile → status ≢ ended.TooMany → ⊥
+file_other fault status is bad many = elim (file_either fault) [
+  | inl h ↦ bad (sym is ∙ h)
+  | inr h ↦ many (sym is ∙ h)
+]
 
 refusal_write_fault : (r : Refusal) → status_of r ≡ ended.WriteFault → ⊥
 refusal_write_fault Usage h = cc
 refusal_write_fault (Absent file) h = cc
 refusal_write_fault (ReadFailed file) h = cc
-refusal_write_fault (BadFile file fault) h = file_write_fault fault h
+refusal_write_fault (BadFile file fault) h = file_other fault ended.WriteFault h (λ k. cc) (λ k. cc)
+refusal_write_fault (BadCell bad) h = cc
 refusal_write_fault NoMemory h = cc
-
--- a failed write is never due
-pub due_write_fault : (view : Option FileView) (words : List (List ℕ)) (status : Status) (text : List ℕ) → IsDue view words status text → status ≡ ended.WriteFault → ⊥
-due_write_fault view words status text is h = elim is [
-  | inl run ↦ let both : ended.Done ≡ ended.WriteFault = sym run.0 ∙ h in cc
-  | inr (inl not) ↦ let both : ended.NotBuilt ≡ ended.WriteFault = sym not.0 ∙ h in cc
-  | inr (inr (inl bad)) ↦ let both : ended.BadCell ≡ ended.WriteFault = sym bad.0 ∙ h in cc
-  | inr (inr (inr why)) ↦ refusal_write_fault why.why (sym why.status_is ∙ h)
-]
-
-file_no_memory : (fault : NbFault) → file_status fault ≡ ended.NoMemory → ⊥
-file_no_memory broken.NotJson h = cc
-file_no_memory broken.NotObject h = cc
-file_no_memory (broken.WrongFormat found) h = cc
-file_no_memory broken.NoCells h = cc
-file_no_memory (broken.BadCell index) h = cc
-file_no_memory broken.NoVersions h = cc
-file_no_memory (broken.BadVersion index) h = cc
-file_no_memory (broken.RepeatedName name) h = cc
-file_no_memory (broken.BadInput name) h = cc
-file_no_memory (broken.TooMany what count) h = cc
-file_no_memory broken.NoMemory h = cc
 
 refusal_no_memory : (r : Refusal) → r ≢ NoMemory → status_of r ≡ ended.NoMemory → ⊥
 refusal_no_memory Usage some h = cc
 refusal_no_memory (Absent file) some h = cc
 refusal_no_memory (ReadFailed file) some h = cc
-refusal_no_memory (BadFile file fault) some h = file_no_memory fault h
+refusal_no_memory (BadFile file fault) some h = file_other fault ended.NoMemory h (λ k. cc) (λ k. cc)
+refusal_no_memory (BadCell bad) some h = cc
 refusal_no_memory NoMemory some h = some refl
+
+-- a failed write is never due
+pub due_write_fault : (view : Option FileView) (words : List (List ℕ)) (status : Status) (text : List ℕ) → IsDue view words status text → status ≡ ended.WriteFault → ⊥
+due_write_fault view words status text is same = by is.answer is.ends
+  where
+    by : (answer : Result (List ℕ) Refusal) → Ends answer status text → ⊥
+    by (Ok written) h = let never : ended.Done ≡ ended.WriteFault = sym h.0 ∙ same in cc
+    by (Err why) h = refusal_write_fault why (sym h.1 ∙ same)
 
 -- where memory was wanting, no text is due
 pub due_no_memory : (view : Option FileView) (words : List (List ℕ)) (status : Status) (text : List ℕ) → IsDue view words status text → status ≡ ended.NoMemory → ⊥
-due_no_memory view words status text is h = elim is [
-  | inl run ↦ let both : ended.Done ≡ ended.NoMemory = sym run.0 ∙ h in cc
-  | inr (inl not) ↦ let both : ended.NotBuilt ≡ ended.NoMemory = sym not.0 ∙ h in cc
-  | inr (inr (inl bad)) ↦ let both : ended.BadCell ≡ ended.NoMemory = sym bad.0 ∙ h in cc
-  | inr (inr (inr why)) ↦ refusal_no_memory why.why why.some (sym why.status_is ∙ h)
-]
+due_no_memory view words status text is same = by is.answer is.ends
+  where
+    by : (answer : Result (List ℕ) Refusal) → Ends answer status text → ⊥
+    by (Ok written) h = let never : ended.Done ≡ ended.NoMemory = sym h.0 ∙ same in cc
+    by (Err why) h = refusal_no_memory why h.0 (sym h.1 ∙ same)
 
 -- counts, by the status of a refusal
-file_absent : (fault : NbFault) → file_status fault ≡ ended.Absent → ⊥
-file_absent broken.NotJson h = cc
-file_absent broken.NotObject h = cc
-file_absent (broken.WrongFormat found) h = cc
-file_absent broken.NoCells h = cc
-file_absent (broken.BadCell index) h = cc
-file_absent broken.NoVersions h = cc
-file_absent (broken.BadVersion index) h = cc
-file_absent (broken.RepeatedName name) h = cc
-file_absent (broken.BadInput name) h = cc
-file_absent (broken.TooMany what count) h = cc
-file_absent broken.NoMemory h = cc
-
-file_read_fault : (fault : NbFault) → file_status fault ≡ ended.ReadFault → ⊥
-file_read_fault broken.NotJson h = cc
-file_read_fault broken.NotObject h = cc
-file_read_fault (broken.WrongFormat found) h = cc
-file_read_fault broken.NoCells h = cc
-file_read_fault (broken.BadCell index) h = cc
-file_read_fault broken.NoVersions h = cc
-file_read_fault (broken.BadVersion index) h = cc
-file_read_fault (broken.RepeatedName name) h = cc
-file_read_fault (broken.BadInput name) h = cc
-file_read_fault (broken.TooMany what count) h = cc
-file_read_fault broken.NoMemory h = cc
-
 module _ (a0 a1 f0 f1 : ℕ) (words : List (List ℕ)) where
   pub absent_counted : (r : Refusal) → ((r ≡ Usage) × (command_of words ≡ None)) ⊎ IsCounted r a0 a1 f0 f1 → status_of r ≡ ended.Absent → Rose a0 a1
   absent_counted Usage h is = cc
   absent_counted (Absent file) (inl h) is = cc
   absent_counted (Absent file) (inr h) is = h
   absent_counted (ReadFailed file) h is = cc
-  absent_counted (BadFile file fault) h is = absurd (file_absent fault is)
+  absent_counted (BadFile file fault) h is = absurd (file_other fault ended.Absent is (λ k. cc) (λ k. cc))
+  absent_counted (BadCell bad) h is = cc
   absent_counted NoMemory h is = cc
 
   pub read_counted : (r : Refusal) → ((r ≡ Usage) × (command_of words ≡ None)) ⊎ IsCounted r a0 a1 f0 f1 → status_of r ≡ ended.ReadFault → Rose f0 f1
@@ -127,153 +92,141 @@ module _ (a0 a1 f0 f1 : ℕ) (words : List (List ℕ)) where
   read_counted (Absent file) h is = cc
   read_counted (ReadFailed file) (inl h) is = cc
   read_counted (ReadFailed file) (inr h) is = h
-  read_counted (BadFile file fault) h is = absurd (file_read_fault fault is)
+  read_counted (BadFile file fault) h is = absurd (file_other fault ended.ReadFault is (λ k. cc) (λ k. cc))
+  read_counted (BadCell bad) h is = cc
   read_counted NoMemory h is = cc
 
-  pub usage_worded : (r : Refusal) → ((r ≡ Usage) × (command_of words ≡ None)) ⊎ IsCounted r a0 a1 f0 f1 → r ≡ Usage → command_of words ≡ None
+  usage_worded : (r : Refusal) → ((r ≡ Usage) × (command_of words ≡ None)) ⊎ IsCounted r a0 a1 f0 f1 → r ≡ Usage → command_of words ≡ None
   usage_worded r (inl h) is = h.1
   usage_worded r (inr h) is = absurd (subst (λ (r : Refusal). IsCounted r a0 a1 f0 f1) is h)
 
--- thin cells have a text
-text_by_some : (cell : ℕ) (out : List ℕ) (e : End) (rest : Option (List ℕ)) → (rest ≡ None → ⊥) → text_by cell out e rest ≡ None → ⊥
-text_by_some cell out end.Done None some h = some refl
-text_by_some cell out end.Done (Some more) some h = cc
-text_by_some cell out (end.Failed why line) rest some h = cc
+  pub err_usage_worded : (r : Refusal) → ((r ≡ Usage) × (command_of words ≡ None)) ⊎ IsCounted r a0 a1 f0 f1 → ◌≡◌ {A = Result (List ℕ) Refusal} (Err r) (Err Usage) → command_of words ≡ None
+  err_usage_worded r h is = let same : r ≡ Usage = cc in usage_worded r h same
 
-both : (a b : Bool) → (a && b) ≡ true → (a ≡ true) × (b ≡ true)
-both true b h = (refl, h)
-both false b h = cc
+-- ---- what an answer is
 
-version_some : (cell : ℕ) (globals : State) (xs : List CellParts) → list_all is_thin_cell xs ≡ true → version_text cell globals xs ≡ None → ⊥
-unfolding version_text
-version_some cell globals [] thin h = cc
-version_some cell globals (x ∷ xs) thin h =
-    let each = both (is_thin_cell x) (list_all is_thin_cell xs) thin in
-    by each.0 (λ after. version_some (cell + 1) after xs each.1) (run_cell x.module 1000000 globals) refl h
-  where
-    by : is_thin_cell x ≡ true → ((after : State) → version_text (cell + 1) after xs ≡ None → ⊥) → (o : Option (Ran × State)) → run_cell x.module 1000000 globals ≡ o
-        → option_and_then (λ p. text_by cell p.0.out p.0.end (version_text (cell + 1) p.1 xs)) o ≡ None → ⊥
-    by one more None is none = thin_runs x.module 1000000 globals one is
-    by one more (Some p) is none = text_by_some cell p.0.out p.0.end (version_text (cell + 1) p.1 xs) (more p.1) none
+pub certain_or : (answer : Result (List ℕ) Refusal) → IsCertain answer ⊎ (answer ≡ Err NoMemory) ⊎ (file : List ℕ) × (answer ≡ Err (ReadFailed file))
+certain_or (Ok text) = inl (λ h. cc, λ file h. cc)
+certain_or (Err Usage) = inl (λ h. cc, λ file h. cc)
+certain_or (Err (Absent name)) = inl (λ h. cc, λ file h. cc)
+certain_or (Err (ReadFailed name)) = inr (inr (name, refl))
+certain_or (Err (BadFile name fault)) = inl (λ h. cc, λ file h. cc)
+certain_or (Err (BadCell bad)) = inl (λ h. cc, λ file h. cc)
+certain_or (Err NoMemory) = inr (inl refl)
 
-mapped_some : (f : List ℕ → List ℕ) (o : Option (List ℕ)) → (o ≡ None → ⊥) → option_map f o ≡ None → ⊥
-mapped_some f None some h = some refl
-mapped_some f (Some x) some h = cc
-
-pub job_some : (headed : Bool) (runs : List Runnable) → are_thin runs ≡ true → job_text headed runs ≡ None → ⊥
-unfolding job_text
-job_some headed [] thin h = cc
-job_some headed (run ∷ runs) thin h =
-    let each = both (is_thin_run run) (are_thin runs) thin in
-    by each.0 (job_some headed runs each.1) (run_text headed run) refl h
-  where
-    by : is_thin_run run ≡ true → (job_text headed runs ≡ None → ⊥) → (o : Option (List ℕ)) → run_text headed run ≡ o → option_and_then (λ text. option_map (λ rest. text ++ rest) (job_text headed runs)) o ≡ None → ⊥
-    by one more None is none = mapped_some (λ text. header_if headed run.name ++ text) (version_text 1 [] run.cells) (version_some 1 [] run.cells one) is
-    by one more (Some text) is none = mapped_some (λ rest. text ++ rest) (job_text headed runs) more none
-
-pub same_job : (i j : Job) (x : Result Job Refusal) → x ≡ Ok i → x ≡ Ok j → i ≡ j
-same_job i j x h k = cc
-
--- what a decision yields where the files are told
 module _ (file : FileView) (words : List (List ℕ)) (status : Status) (text : List ℕ) (is : IsDue (Some file) words status text) where
-  refusal_yields : (why r : Refusal) → why ≢ NoMemory → status ≡ status_of why → Refuses (job_at file words) why → (job_at file words).1 ≡ Err r → Yields (status_of r) status
-  refusal_yields Usage r some same h h' = let one : Usage ≡ r = cc in inl (same ∙ ap status_of one)
-  refusal_yields (Absent f) r some same h h' = let one : Absent f ≡ r = cc in inl (same ∙ ap status_of one)
-  refusal_yields (ReadFailed f) r some same h h' = inr (inr (inl same))
-  refusal_yields (BadFile f fault) r some same h h' = let one : BadFile f fault ≡ r = cc in inl (same ∙ ap status_of one)
-  refusal_yields NoMemory r some same h h' = absurd (some refl)
-
-  refusal_stops : (wanted : Status) (why : Refusal) (job : Job) → why ≢ NoMemory → status ≡ status_of why → Refuses (job_at file words) why → (job_at file words).1 ≡ Ok job → Yields wanted status
-  refusal_stops wanted Usage job some same h h' = cc
-  refusal_stops wanted (Absent f) job some same h h' = cc
-  refusal_stops wanted (ReadFailed f) job some same h h' = inr (inr (inl same))
-  refusal_stops wanted (BadFile f fault) job some same h h' = cc
-  refusal_stops wanted NoMemory job some same h h' = absurd (some refl)
-
-  pub refused_yields : (r : Refusal) → (job_at file words).1 ≡ Err r → Yields (status_of r) status
-  refused_yields r h = elim is [
-    | inl run ↦ let both : Ok run.1.job ≡ Err r = sym run.1.read ∙ h in cc
-    | inr (inl not) ↦ let both : Ok not.2.job ≡ Err r = sym not.2.read ∙ h in cc
-    | inr (inr (inl bad)) ↦ let both : Ok bad.1.job ≡ Err r = sym bad.1.read ∙ h in cc
-    | inr (inr (inr why)) ↦ refusal_yields why.why r why.some why.status_is why.is_due h
+  -- where the words and the files call for this answer, the call ends as it does, or a read failed
+  ends_so : (wanted : Result (List ℕ) Refusal) → due file words wanted → IsCertain wanted → Ends wanted status text ⊎ (status ≡ ended.ReadFault)
+  ends_so wanted called certain = elim (certain_or is.answer) [
+    | inl sure ↦ inl (subst (λ answer. Ends answer status text) (due_single file words is.answer wanted is.called called sure certain) is.ends)
+    | inr (inl none) ↦ absurd ((subst (λ answer. Ends answer status text) none is.ends).0 refl)
+    | inr (inr failed) ↦ inr (subst (λ answer. Ends answer status text) failed.1 is.ends).1
   ]
 
-  -- the versions of the two readings are the same
-  moved : (P : Job → Type 0) (i j : Job) → (job_at file words).1 ≡ Ok i → (job_at file words).1 ≡ Ok j → P i → P j
-  moved P i j h k x = subst P (same_job i j (job_at file words).1 h k) x
-
-  pub bad_cell_yields : (job : Job) (bad : BadCell) → (job_at file words).1 ≡ Ok job → IsFirstBad job.versions bad → Yields ended.BadCell status
-  bad_cell_yields job bad h first = elim is [
-    | inl run ↦ absurd (bad_apart job.versions run.1.runs bad (moved (λ j. AreRunnable j.versions run.1.runs) run.1.job job run.1.read h run.1.are) first)
-    | inr (inl not) ↦ absurd (bad_apart job.versions not.2.runs bad (moved (λ j. AreRunnable j.versions not.2.runs) not.2.job job not.2.read h not.2.are) first)
-    | inr (inr (inl found)) ↦ inl found.0
-    | inr (inr (inr why)) ↦ refusal_stops ended.BadCell why.why job why.some why.status_is why.is_due h
+  pub refused_yields : (why : Refusal) → due file words (Err why) → IsCertain {A = List ℕ} (Err why) → Yields (status_of why) status
+  refused_yields why called certain = elim (ends_so (Err why) called certain) [
+    | inl h ↦ inl h.1
+    | inr failed ↦ inr (inr (inl failed))
   ]
 
-  pub not_built_yields : (job : Job) (runs : List Runnable) → (job_at file words).1 ≡ Ok job → AreRunnable job.versions runs → are_thin runs ≡ false → Yields ended.NotBuilt status
-  not_built_yields job runs h are not_thin = elim is [
-    | inl run ↦
-        let same : are_thin run.1.runs ≡ are_thin runs = thin_same job.versions run.1.runs runs (moved (λ j. AreRunnable j.versions run.1.runs) run.1.job job run.1.read h run.1.are) are in
-        let never : true ≡ false = sym run.1.thin ∙ same ∙ not_thin in cc
-    | inr (inl not) ↦ inl not.0
-    | inr (inr (inl found)) ↦ absurd (bad_apart job.versions runs found.1.bad are (moved (λ j. IsFirstBad j.versions found.1.bad) found.1.job job found.1.read h found.1.first))
-    | inr (inr (inr why)) ↦ refusal_stops ended.NotBuilt why.why job why.some why.status_is why.is_due h
+  pub done_yields : (written : List ℕ) → due file words (Ok written) → Yields ended.Done status
+  done_yields written called = elim (ends_so (Ok written) called (λ h. cc, λ file h. cc)) [
+    | inl h ↦ inl h.0
+    | inr failed ↦ inr (inr (inl failed))
   ]
 
-  pub done_yields : (job : Job) (runs : List Runnable) → (job_at file words).1 ≡ Ok job → AreRunnable job.versions runs → are_thin runs ≡ true → Yields ended.Done status
-  done_yields job runs h are thin = elim is [
-    | inl run ↦ inl run.0
-    | inr (inl not) ↦
-        let same : are_thin not.2.runs ≡ are_thin runs = thin_same job.versions not.2.runs runs (moved (λ j. AreRunnable j.versions not.2.runs) not.2.job job not.2.read h not.2.are) are in
-        let never : false ≡ true = sym not.2.not_thin ∙ same ∙ thin in cc
-    | inr (inr (inl found)) ↦ absurd (bad_apart job.versions runs found.1.bad are (moved (λ j. IsFirstBad j.versions found.1.bad) found.1.job job found.1.read h found.1.first))
-    | inr (inr (inr why)) ↦ refusal_stops ended.Done why.why job why.some why.status_is why.is_due h
+  -- two texts that end one answer are one
+  one_text : (answer : Result (List ℕ) Refusal) (other : List ℕ) → Ends answer status text → Ends answer status other → text ≡ other
+  one_text (Ok written) other h k = h.1 ∙ sym k.1
+  one_text (Err why) other h k = h.2 ∙ sym k.2
+
+  pub text_once : (other : List ℕ) → IsDue (Some file) words status other → status ≢ ended.ReadFault → text ≡ other
+  text_once other k sure = elim (certain_or k.answer) [
+    | inl certain ↦ elim (ends_so k.answer k.called certain) [
+      | inl h ↦ one_text k.answer other h k.ends
+      | inr failed ↦ absurd (sure failed)
+    ]
+    | inr (inl none) ↦ absurd ((subst (λ answer. Ends answer status other) none k.ends).0 refl)
+    | inr (inr failed) ↦ absurd (sure (subst (λ answer. Ends answer status other) failed.1 k.ends).1)
   ]
 
--- what is due where versions were read, and where a refusal came
-pub job_due : (view : Option FileView) (words : List (List ℕ)) (job : Job) (status : Status) (text : List ℕ) → IfSome view (λ file. (job_at file words).1 ≡ Ok job)
-    → IsDecided job status text → IsDue view words status text
-job_due None words job status text read (inl run) = inl (run.0, tt)
-job_due (Some file) words job status text read (inl run) = inl (run.0, record { job = job; read = read; runs = run.1; are = run.2; thin = run.3; printed = run.4 })
-job_due None words job status text read (inr (inl not)) = inr (inl (not.0, not.1, tt))
-job_due (Some file) words job status text read (inr (inl not)) = inr (inl (not.0, not.1, record { job = job; read = read; runs = not.2; are = not.3; not_thin = not.4 }))
-job_due None words job status text read (inr (inr bad)) = inr (inr (inl (bad.0, tt)))
-job_due (Some file) words job status text read (inr (inr bad)) = inr (inr (inl (bad.0, record { job = job; read = read; bad = bad.1; first = bad.2; line = bad.3 })))
+-- ---- the same of each library
 
-pub refusal_due : (view : Option FileView) (words : List (List ℕ)) (r : Refusal) (status : Status) (text : List ℕ) → IfSome view (λ file. Refuses (job_at file words) r)
-    → (r ≡ Usage → command_of words ≡ None) → (r ≢ NoMemory) × (status ≡ status_of r) × (text ≡ line_of r) → IsDue view words status text
-refusal_due view words r status text h worded is = inr (inr (inr (record { why = r; some = is.0; status_is = is.1; line = is.2; worded = worded; is_due = h })))
-
--- the same of each library
 pub all_some : (view : Option FileView) (P : FileView → Type 0) → ((file : FileView) → P file) → IfSome view P
 all_some None P h = tt
 all_some (Some file) P h = h file
 
-module _ (view : Option FileView) (words : List (List ℕ)) (status : Status) (text : List ℕ) where
-  pub view_refused : IsDue view words status text → IfSome view (λ file. (r : Refusal) → (job_at file words).1 ≡ Err r → Yields (status_of r) status)
-  view_refused is = by view is
-    where
-      by : (view : Option FileView) → IsDue view words status text → IfSome view (λ file. (r : Refusal) → (job_at file words).1 ≡ Err r → Yields (status_of r) status)
-      by None is = tt
-      by (Some file) is = refused_yields file words status text is
+pub view_refused : (view : Option FileView) (words : List (List ℕ)) (status : Status) (text : List ℕ) → IsDue view words status text
+    → IfSome view (λ file. (why : Refusal) → due file words (Err why) → IsCertain {A = List ℕ} (Err why) → Yields (status_of why) status)
+view_refused None words status text is = tt
+view_refused (Some file) words status text is = refused_yields file words status text is
 
-  pub view_bad_cell : IsDue view words status text → IfSome view (λ file. (job : Job) (bad : BadCell) → (job_at file words).1 ≡ Ok job → IsFirstBad job.versions bad → Yields ended.BadCell status)
-  view_bad_cell is = by view is
-    where
-      by : (view : Option FileView) → IsDue view words status text → IfSome view (λ file. (job : Job) (bad : BadCell) → (job_at file words).1 ≡ Ok job → IsFirstBad job.versions bad → Yields ended.BadCell status)
-      by None is = tt
-      by (Some file) is = bad_cell_yields file words status text is
+pub view_done : (view : Option FileView) (words : List (List ℕ)) (status : Status) (text : List ℕ) → IsDue view words status text
+    → IfSome view (λ file. (written : List ℕ) → due file words (Ok written) → Yields ended.Done status)
+view_done None words status text is = tt
+view_done (Some file) words status text is = done_yields file words status text is
 
-  pub view_not_built : IsDue view words status text → IfSome view (λ file. (job : Job) (runs : List Runnable) → (job_at file words).1 ≡ Ok job → AreRunnable job.versions runs → are_thin runs ≡ false → Yields ended.NotBuilt status)
-  view_not_built is = by view is
-    where
-      by : (view : Option FileView) → IsDue view words status text → IfSome view (λ file. (job : Job) (runs : List Runnable) → (job_at file words).1 ≡ Ok job → AreRunnable job.versions runs → are_thin runs ≡ false → Yields ended.NotBuilt status)
-      by None is = tt
-      by (Some file) is = not_built_yields file words status text is
+-- what was appended is the text that is due
+pub view_once : (view : Option FileView) (words : List (List ℕ)) (status : Status) (text : List ℕ) (before now : Option (List ℕ)) → IsDue view words status text → GrewBy text before now
+    → IfSome view (λ file. (other : List ℕ) → IsDue (Some file) words status other → status ≢ ended.ReadFault → GrewBy other before now)
+view_once None words status text before now is grew = tt
+view_once (Some file) words status text before now is grew = λ other h sure. subst (λ t. GrewBy t before now) (text_once file words status text is other h sure) grew
 
-  pub view_done : IsDue view words status text → IfSome view (λ file. (job : Job) (runs : List Runnable) → (job_at file words).1 ≡ Ok job → AreRunnable job.versions runs → are_thin runs ≡ true → Yields ended.Done status)
-  view_done is = by view is
-    where
-      by : (view : Option FileView) → IsDue view words status text → IfSome view (λ file. (job : Job) (runs : List Runnable) → (job_at file words).1 ≡ Ok job → AreRunnable job.versions runs → are_thin runs ≡ true → Yields ended.Done status)
-      by None is = tt
-      by (Some file) is = done_yields file words status text is
+-- ---- what the stages of a call give
+
+-- the job that the files give, and what it calls for
+pub due_after : (view : Option FileView) (words : List (List ℕ)) (job : Job) (answer : Result (List ℕ) Refusal) → IfSome view (λ file. (job_at file words).1 ≡ Ok job) → job_due job answer
+    → IfSome view (λ file. due file words answer)
+unfolding due
+due_after None words job answer read h = tt
+due_after (Some file) words job answer read h = inl (job, read, h)
+
+pub due_refused : (view : Option FileView) (words : List (List ℕ)) (why : Refusal) → IfSome view (λ file. Refuses (job_at file words) why) → IfSome view (λ file. due file words (Err why))
+unfolding due
+due_refused None words why read = tt
+due_refused (Some file) words why read = inr (why, read, refl)
+
+-- what a job's cells give
+pub text_called : (job : Job) (versions : List Checked) (text : List ℕ) → AreChecked job.versions versions → text ≡ job_text job.headed most_steps versions → job_due job (Ok text)
+text_called job versions text all is = inl (versions, all, inl (ap Ok is))
+
+pub refusal_called : (job : Job) (why : Refusal) → IsCellRefusal (IsFirstBad job.versions) why → job_due job (Err why)
+refusal_called job why h = inr (why, h, refl)
+
+pub no_memory_called : (job : Job) (versions : List Checked) → AreChecked job.versions versions → job_due job (Err NoMemory)
+no_memory_called job versions all = inl (versions, all, inr refl)
+
+-- a refusal of a cell comes with no count
+pub cell_counted : (versions : List Version) (why : Refusal) → IsCellRefusal (IsFirstBad versions) why → (a0 a1 f0 f1 : ℕ) → IsCounted why a0 a1 f0 f1
+cell_counted versions (BadCell bad) h a0 a1 f0 f1 = tt
+cell_counted versions NoMemory h a0 a1 f0 f1 = tt
+cell_counted versions Usage h a0 a1 f0 f1 = absurd h
+cell_counted versions (Absent file) h a0 a1 f0 f1 = absurd h
+cell_counted versions (ReadFailed file) h a0 a1 f0 f1 = absurd h
+cell_counted versions (BadFile file fault) h a0 a1 f0 f1 = absurd h
+
+-- ---- what is due with an answer
+
+pub text_due : (view : Option FileView) (words : List (List ℕ)) (text : List ℕ) → IfSome view (λ file. due file words (Ok text)) → IsDue view words ended.Done (encode_utf8_all text)
+text_due view words text called = record { answer = Ok text; called = called; worded = λ h. cc; ends = (refl, refl) }
+
+pub refusal_due : (view : Option FileView) (words : List (List ℕ)) (why : Refusal) (status : Status) (text : List ℕ) (a0 a1 f0 f1 : ℕ)
+    → IfSome view (λ file. due file words (Err why)) → ((why ≡ Usage) × (command_of words ≡ None)) ⊎ IsCounted why a0 a1 f0 f1 → Ends (Err why) status text → IsDue view words status text
+refusal_due view words why status text a0 a1 f0 f1 called counted ends =
+    record { answer = Err why; called = called; worded = err_usage_worded a0 a1 f0 f1 words why counted; ends = ends }
+
+-- words that are no command end with the usage, where memory is not wanting
+pub usage_status : (why : Refusal) (status : Status) (text : List ℕ) → ◌≡◌ {A = Result (List ℕ) Refusal} (Err why) (Err Usage) ⊎ ◌≡◌ {A = Result (List ℕ) Refusal} (Err why) (Err NoMemory)
+    → Ends (Err why) status text → status ≡ ended.Usage
+usage_status why status text (inl h) ends = let same : why ≡ Usage = cc in ends.1 ∙ ap status_of same
+usage_status why status text (inr h) ends = let same : why ≡ NoMemory = cc in absurd (ends.0 same)
+
+-- and no answer but these is one then
+pub never_ok : {A : Type 0} (x : A) → ◌≡◌ {A = Result A Refusal} (Ok x) (Err Usage) ⊎ ◌≡◌ {A = Result A Refusal} (Ok x) (Err NoMemory) → ⊥
+never_ok x (inl h) = cc
+never_ok x (inr h) = cc
+
+pub usage_handed : {A B : Type 0} (result : Result B Refusal) (e r : Refusal) → result ≡ Err e → e ≡ r
+    → ◌≡◌ {A = Result A Refusal} (Err r) (Err Usage) ⊎ ◌≡◌ {A = Result A Refusal} (Err r) (Err NoMemory) → (result ≡ Err Usage) ⊎ (result ≡ Err NoMemory)
+usage_handed result e r is same (inl h) = let why : r ≡ Usage = cc in inl (is ∙ ap Err (same ∙ why))
+usage_handed result e r is same (inr h) = let why : r ≡ NoMemory = cc in inr (is ∙ ap Err (same ∙ why))

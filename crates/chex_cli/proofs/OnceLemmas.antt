@@ -1,33 +1,28 @@
--- One text at most is due with a status but that of a failed read.
+-- The words and the files call for one answer at most, beside a failed read and want of memory.
 use Rattle.std.proofs.Common.{◌≡◌, ◌≢◌, inl, inr, ◌+◌, ℕ, Bool, List, [], ◌∷◌, ◌++◌, Option, Some, None, Result, Ok, Err, sym, ◌∙◌, ap, subst, refl}
-use Rattle.std.specs.Prelude.{IfSome, option_map, option_and_then}
-use Rattle.std.specs.List.{AllZip}
+use Rattle.std.specs.Prelude.{IfSome}
 use Rattle.chex_base.specs.Outside.{GrewBy}
 use Rattle.chex_base.specs.declared.status.Status.{Status}
 use Rattle.chex_base.specs.declared.status.Status.TheVariants as ended
-use Rattle.star_syntax.specs.CellParts.{CellParts}
-use Rattle.star_eval.specs.declared.cell.Ran.{Ran}
-use Rattle.star_eval.specs.State.{State}
-use Rattle.star_eval.specs.Meaning.{run_cell}
 use Rattle.chex_cli.specs.declared.cell.Reason.{Reason}
 use Rattle.chex_cli.specs.declared.bad_cell.BadCell.{BadCell}
 use Rattle.chex_cli.specs.declared.refusal.Refusal.{Refusal}
 use Rattle.chex_cli.specs.declared.refusal.Refusal.TheVariants.{Usage, Absent, ReadFailed, BadFile, NoMemory}
+use Rattle.chex_cli.specs.declared.refusal.Refusal.TheVariants as refusal
 use Rattle.chex_cli.specs.declared.version.Job.{Job}
 use Rattle.chex_cli.specs.declared.version.Version.{Version}
-use Rattle.chex_cli.specs.declared.checking.Runnable.{Runnable}
+use Rattle.chex_cli.specs.declared.checking.Checked.{Checked}
 use Rattle.chex_cli.specs.Refusals.{status_of, line_of}
-use Rattle.chex_cli.specs.Reads.{FileView, Refuses}
+use Rattle.chex_cli.specs.Reads.{FileView, Read, Answers, Refuses}
 use Rattle.chex_cli.specs.Files.{job_at}
-use Rattle.chex_cli.specs.BadCells as cells
+use Rattle.chex_cli.specs.Stages.{Stage, pure, of, ◌>>=◌, IsCertain, IsSingle}
 use Rattle.chex_cli.specs.Cells.{IsCellOf, IsWrong}
-use Rattle.chex_cli.specs.Jobs.{IsRunnable, AreRunnable, IsBadIn, IsFirstBad}
-use Rattle.chex_cli.specs.Texts.{text_by, version_text, run_text, job_text, header_if}
-use Rattle.chex_cli.specs.Ends.{IsRun, IsRefusedCell, IsRefused, IsDue}
+use Rattle.chex_cli.specs.Jobs.{IsChecked, AreChecked, IsBadIn, IsFirstBad, checked}
+use Rattle.chex_cli.specs.Texts.{job_text}
+use Rattle.chex_cli.specs.Ends.{IsDue, Ends, due, job_due, most_steps}
 use Rattle.chex_cli.proofs.FirstLemmas.{first_once}
-use Rattle.chex_cli.proofs.CellLemmas.{cell_apart, version_apart, same_tree}
+use Rattle.chex_cli.proofs.CellLemmas.{cell_apart, version_apart, bad_apart, all_checked_once}
 use Rattle.chex_cli.proofs.WrongLemmas.{wrong_once}
-use Rattle.chex_cli.proofs.EndLemmas.{same_job}
 
 -- ---- the first cell that is refused
 
@@ -53,102 +48,77 @@ bad_in_once version a b h k =
 
 first_bad_once : (versions : List Version) (a b : BadCell) → IsFirstBad versions a → IsFirstBad versions b → a ≡ b
 first_bad_once versions a b h k =
-    (first_once IsRunnable IsBadIn (λ version run bad. version_apart bad version run) bad_in_once versions h.0 k.0 a b h.1 k.1).1
+    (first_once IsChecked IsBadIn (λ version run bad. version_apart bad version run) bad_in_once versions h.0 k.0 a b h.1 k.1).1
 
--- ---- the text of versions
+-- ---- stages
 
-after_same : (cell : ℕ) (o : Option (Ran × State)) (f g : State → Option (List ℕ)) → ((after : State) → f after ≡ g after)
-    → option_and_then (λ p. text_by cell p.0.out p.0.end (f p.1)) o ≡ option_and_then (λ p. text_by cell p.0.out p.0.end (g p.1)) o
-after_same cell None f g same = refl
-after_same cell (Some p) f g same = ap (text_by cell p.0.out p.0.end) (same p.1)
+pub pure_single : {A : Type 0} (x : A) → IsSingle (pure x)
+pure_single x one other (inl h) (inl k) sure certain = h ∙ sym k
+pure_single x one other (inl h) (inr k) sure certain = absurd (certain.0 k)
+pure_single x one other (inr h) k sure certain = absurd (sure.0 h)
 
-version_once : (sources : List (List ℕ)) (a b : List CellParts) → AllZip IsCellOf sources a → AllZip IsCellOf sources b → (cell : ℕ) (globals : State)
-    → version_text cell globals a ≡ version_text cell globals b
-unfolding version_text
-version_once [] [] [] h k cell globals = refl
-version_once [] [] (y ∷ ys) h k cell globals = absurd k
-version_once [] (x ∷ xs) b h k cell globals = absurd h
-version_once (s ∷ ss) [] b h k cell globals = absurd h
-version_once (s ∷ ss) (x ∷ xs) [] h k cell globals = absurd k
-version_once (s ∷ ss) (x ∷ xs) (y ∷ ys) h k cell globals =
-    ap (λ tree. option_and_then (λ p. text_by cell p.0.out p.0.end (version_text (cell + 1) p.1 xs)) (run_cell tree 1000000 globals)) (same_tree s x y h.0 k.0)
-    ∙ after_same cell (run_cell y.module 1000000 globals) (λ after. version_text (cell + 1) after xs) (λ after. version_text (cell + 1) after ys)
-    (λ after. version_once ss xs ys h.1 k.1 (cell + 1) after)
+answer_is : {A : Type 0} (read : Read A) (answer : Result A Refusal) → Answers read answer → IsCertain answer → read.1 ≡ answer
+answer_is read (Ok x) h sure = h
+answer_is read (Err Usage) h sure = h
+answer_is read (Err (Absent file)) h sure = h
+answer_is read (Err (ReadFailed file)) h sure = absurd (sure.1 file refl)
+answer_is read (Err (BadFile file fault)) h sure = h
+answer_is read (Err (refusal.BadCell bad)) h sure = h
+answer_is read (Err NoMemory) h sure = absurd (sure.0 refl)
 
-run_once : (headed : Bool) (version : Version) (a b : Runnable) → IsRunnable version a → IsRunnable version b → run_text headed a ≡ run_text headed b
-run_once headed version a b h k =
-    ap (λ name. option_map (λ text. header_if headed name ++ text) (version_text 1 [] a.cells)) (h.0 ∙ sym k.0)
-    ∙ ap (option_map (λ text. header_if headed b.name ++ text)) (version_once version.sources a.cells b.cells h.1 k.1 1 [])
+pub of_single : {A : Type 0} (read : Read A) → IsSingle (of read)
+of_single read one other h k sure certain = sym (answer_is read one h sure) ∙ answer_is read other k certain
 
-job_once : (headed : Bool) (versions : List Version) (a b : List Runnable) → AreRunnable versions a → AreRunnable versions b → job_text headed a ≡ job_text headed b
-unfolding job_text
-job_once headed [] [] [] h k = refl
-job_once headed [] [] (y ∷ ys) h k = absurd k
-job_once headed [] (x ∷ xs) b h k = absurd h
-job_once headed (v ∷ vs) [] b h k = absurd h
-job_once headed (v ∷ vs) (x ∷ xs) [] h k = absurd k
-job_once headed (v ∷ vs) (x ∷ xs) (y ∷ ys) h k =
-    ap (λ o. option_and_then (λ text. option_map (λ rest. text ++ rest) (job_text headed xs)) o) (run_once headed v x y h.0 k.0)
-    ∙ ap (λ o. option_and_then (λ text. option_map (λ rest. text ++ rest) o) (run_text headed y)) (job_once headed vs xs ys h.1 k.1)
+ok_certain : {A : Type 0} (x : A) → IsCertain {A = A} (Ok x)
+ok_certain x = (λ h. cc, λ file h. cc)
 
--- ---- one text
+-- a refusal is as certain as the answer that it is
+err_certain : {A B : Type 0} (why : Refusal) (answer : Result B Refusal) → answer ≡ Err why → IsCertain answer → IsCertain {A = A} (Err why)
+err_certain why answer is sure = (λ h. let same : why ≡ NoMemory = cc in sure.0 (is ∙ ap Err same), λ file h. let same : why ≡ ReadFailed file = cc in sure.1 file (is ∙ ap Err same))
 
-err_same : (a b : Refusal) (x : Result Job Refusal) → x ≡ Err a → x ≡ Err b → a ≡ b
-err_same a b x h k = cc
+ok_same : {A : Type 0} (x y : A) → ◌≡◌ {A = Result A Refusal} (Ok x) (Ok y) → x ≡ y
+ok_same x y h = cc
 
-module _ (file : FileView) (words : List (List ℕ)) where
-  refusal_is : (why : Refusal) → why ≢ NoMemory → status_of why ≢ ended.ReadFault → Refuses (job_at file words) why → (job_at file words).1 ≡ Err why
-  refusal_is Usage some sure h = h
-  refusal_is (Absent f) some sure h = h
-  refusal_is (ReadFailed f) some sure h = absurd (sure refl)
-  refusal_is (BadFile f fault) some sure h = h
-  refusal_is NoMemory some sure h = absurd (some refl)
+err_same : {A : Type 0} (x y : Refusal) → ◌≡◌ {A = Result A Refusal} (Err x) (Err y) → x ≡ y
+err_same x y h = cc
 
-  text_once : (a b : List ℕ) → IsRun file words a → IsRun file words b → a ≡ b
-  text_once a b h k =
-      let job : h.job ≡ k.job = same_job h.job k.job (job_at file words).1 h.read k.read in
-      let moved : AreRunnable k.job.versions h.runs = subst (λ j. AreRunnable j.versions h.runs) job h.are in
-      let same : Some a ≡ Some b =
-      sym h.printed ∙ ap (λ (j : Job). job_text j.headed h.runs) job ∙ job_once k.job.headed k.job.versions h.runs k.runs moved k.are ∙ k.printed in
-      cc
+ok_err_apart : {A : Type 0} (x : A) (why : Refusal) → ◌≡◌ {A = Result A Refusal} (Ok x) (Err why) → ⊥
+ok_err_apart x why h = cc
 
-  line_once : (a b : List ℕ) → IsRefusedCell file words a → IsRefusedCell file words b → a ≡ b
-  line_once a b h k =
-      let job : h.job ≡ k.job = same_job h.job k.job (job_at file words).1 h.read k.read in
-      let moved : IsFirstBad k.job.versions h.bad = subst (λ j. IsFirstBad j.versions h.bad) job h.first in
-      h.line ∙ ap cells.line_of (first_bad_once k.job.versions h.bad k.bad moved k.first) ∙ sym k.line
+pub next_single : {A B : Type 0} (p : Stage A) (f : A → Stage B) → IsSingle p → ((x : A) → IsSingle (f x)) → IsSingle (p >>= f)
+next_single p f first then one other (inl h) (inl k) sure certain =
+    let same : h.0 ≡ k.0 = ok_same h.0 k.0 (first (Ok h.0) (Ok k.0) h.1 k.1 (ok_certain h.0) (ok_certain k.0)) in
+    then k.0 one other (subst (λ x. f x one) same h.2) k.2 sure certain
+next_single p f first then one other (inl h) (inr k) sure certain =
+    absurd (ok_err_apart h.0 k.0 (first (Ok h.0) (Err k.0) h.1 k.1 (ok_certain h.0) (err_certain k.0 other k.2 certain)))
+next_single p f first then one other (inr h) (inl k) sure certain =
+    absurd (ok_err_apart k.0 h.0 (sym (first (Err h.0) (Ok k.0) h.1 k.1 (err_certain h.0 one h.2 sure) (ok_certain k.0))))
+next_single p f first then one other (inr h) (inr k) sure certain =
+    let why : h.0 ≡ k.0 = err_same h.0 k.0 (first (Err h.0) (Err k.0) h.1 k.1 (err_certain h.0 one h.2 sure) (err_certain k.0 other k.2 certain)) in
+    h.2 ∙ ap Err why ∙ sym k.2
 
-  module _ (status : Status) (sure : status ≢ ended.ReadFault) where
-    refused_is : (text : List ℕ) (is : IsRefused (Some file) words status text) → (job_at file words).1 ≡ Err is.why
-    refused_is text is = refusal_is is.why is.some (λ h. sure (is.status_is ∙ h)) is.is_due
+checked_single : (versions : List Version) → IsSingle (checked versions)
+checked_single versions (Ok a) (Ok b) h k sure certain = ap Ok (all_checked_once versions a b h k)
+checked_single versions (Ok a) (Err (refusal.BadCell bad)) h k sure certain = absurd (bad_apart versions a bad h k)
+checked_single versions (Ok a) (Err NoMemory) h k sure certain = absurd (certain.0 refl)
+checked_single versions (Ok a) (Err Usage) h k sure certain = absurd k
+checked_single versions (Ok a) (Err (Absent file)) h k sure certain = absurd k
+checked_single versions (Ok a) (Err (ReadFailed file)) h k sure certain = absurd k
+checked_single versions (Ok a) (Err (BadFile file fault)) h k sure certain = absurd k
+checked_single versions (Err (refusal.BadCell a)) (Ok all) h k sure certain = absurd (bad_apart versions all a k h)
+checked_single versions (Err (refusal.BadCell a)) (Err (refusal.BadCell b)) h k sure certain = ap (λ bad. Err (refusal.BadCell bad)) (first_bad_once versions a b h k)
+checked_single versions (Err (refusal.BadCell a)) (Err NoMemory) h k sure certain = absurd (certain.0 refl)
+checked_single versions (Err (refusal.BadCell a)) (Err Usage) h k sure certain = absurd k
+checked_single versions (Err (refusal.BadCell a)) (Err (Absent file)) h k sure certain = absurd k
+checked_single versions (Err (refusal.BadCell a)) (Err (ReadFailed file)) h k sure certain = absurd k
+checked_single versions (Err (refusal.BadCell a)) (Err (BadFile file fault)) h k sure certain = absurd k
+checked_single versions (Err NoMemory) other h k sure certain = absurd (sure.0 refl)
+checked_single versions (Err Usage) other h k sure certain = absurd h
+checked_single versions (Err (Absent file)) other h k sure certain = absurd h
+checked_single versions (Err (ReadFailed file)) other h k sure certain = absurd h
+checked_single versions (Err (BadFile file fault)) other h k sure certain = absurd h
 
-    refused_once : (a b : List ℕ) → IsRefused (Some file) words status a → IsRefused (Some file) words status b → a ≡ b
-    refused_once a b h k = h.line ∙ ap line_of (err_same h.why k.why (job_at file words).1 (refused_is a h) (refused_is b k)) ∙ sym k.line
-
-    -- where a refusal is due, the files give no versions
-    no_versions : (text : List ℕ) (job : Job) → IsRefused (Some file) words status text → (job_at file words).1 ≡ Ok job → ⊥
-    no_versions text job is read = let both : Err is.why ≡ Ok job = sym (refused_is text is) ∙ read in cc
-
-    due_once : (a b : List ℕ) → IsDue (Some file) words status a → IsDue (Some file) words status b → a ≡ b
-    due_once a b (inl h) (inl k) = text_once a b h.1 k.1
-    due_once a b (inl h) (inr (inl k)) = let both : ended.Done ≡ ended.NotBuilt = sym h.0 ∙ k.0 in cc
-    due_once a b (inl h) (inr (inr (inl k))) = let both : ended.Done ≡ ended.BadCell = sym h.0 ∙ k.0 in cc
-    due_once a b (inl h) (inr (inr (inr k))) = absurd (no_versions b h.1.job k h.1.read)
-    due_once a b (inr (inl h)) (inl k) = let both : ended.NotBuilt ≡ ended.Done = sym h.0 ∙ k.0 in cc
-    due_once a b (inr (inl h)) (inr (inl k)) = h.1 ∙ sym k.1
-    due_once a b (inr (inl h)) (inr (inr (inl k))) = let both : ended.NotBuilt ≡ ended.BadCell = sym h.0 ∙ k.0 in cc
-    due_once a b (inr (inl h)) (inr (inr (inr k))) = absurd (no_versions b h.2.job k h.2.read)
-    due_once a b (inr (inr (inl h))) (inl k) = let both : ended.BadCell ≡ ended.Done = sym h.0 ∙ k.0 in cc
-    due_once a b (inr (inr (inl h))) (inr (inl k)) = let both : ended.BadCell ≡ ended.NotBuilt = sym h.0 ∙ k.0 in cc
-    due_once a b (inr (inr (inl h))) (inr (inr (inl k))) = line_once a b h.1 k.1
-    due_once a b (inr (inr (inl h))) (inr (inr (inr k))) = absurd (no_versions b h.1.job k h.1.read)
-    due_once a b (inr (inr (inr h))) (inl k) = absurd (no_versions a k.1.job h k.1.read)
-    due_once a b (inr (inr (inr h))) (inr (inl k)) = absurd (no_versions a k.2.job h k.2.read)
-    due_once a b (inr (inr (inr h))) (inr (inr (inl k))) = absurd (no_versions a k.1.job h k.1.read)
-    due_once a b (inr (inr (inr h))) (inr (inr (inr k))) = refused_once a b h k
-
--- what was appended is the text that is due
-pub view_once : (view : Option FileView) (words : List (List ℕ)) (status : Status) (text : List ℕ) (before now : Option (List ℕ)) → IsDue view words status text → GrewBy text before now
-    → IfSome view (λ file. (other : List ℕ) → IsDue (Some file) words status other → status ≢ ended.ReadFault → GrewBy other before now)
-view_once None words status text before now is grew = tt
-view_once (Some file) words status text before now is grew = λ other h sure. subst (λ t. GrewBy t before now) (due_once file words status sure text other is h) grew
+pub due_single : (file : FileView) (words : List (List ℕ)) → IsSingle (due file words)
+unfolding due
+due_single file words = next_single (of (job_at file words)) job_due (of_single (job_at file words))
+    (λ job. next_single (checked job.versions) (λ versions. pure (job_text job.headed most_steps versions)) (checked_single job.versions) (λ versions. pure_single (job_text job.headed most_steps versions)))

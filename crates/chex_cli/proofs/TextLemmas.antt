@@ -1,95 +1,137 @@
 -- Texts of cells one after the other, and of versions one after the other.
-use Rattle.std.proofs.Common.{◌≡◌, ◌<◌, ◌≤◌, ◌+◌, ℕ, Bool, List, [], ◌∷◌, ◌++◌, length, drop, get_or, Option, Some, None, sym, ◌∙◌, ap, refl, append_assoc, append-nil}
-use Rattle.std.specs.Prelude.{option_map, option_and_then}
-use Rattle.std.specs.Str.{encode_utf8_all}
-use Rattle.std.proofs.lemmas.List.{drop_more, drop_all}
+use Rattle.std.proofs.Common.{◌≡◌, ◌<◌, ◌≤◌, ◌+◌, ℕ, zero, suc, Bool, List, [], ◌∷◌, Some, ◌++◌, length, drop, get_or, sym, ◌∙◌, ap, subst, refl, arith, append_assoc, append-nil}
+use Rattle.std.specs.Prelude.{IsTrue, codes}
+use Rattle.std.specs.List.{flat_map, slice_get}
+use Rattle.std.specs.List.Sorted.{IsStrictlySortedBy}
+use Rattle.std.specs.Option.{is_some}
+use Rattle.std.specs.Str.{chars}
+use Rattle.std.proofs.lemmas.List.{drop_more, drop_all, length-append}
+use Rattle.std.proofs.lemmas.Grind.{flat_map-append}
+use Rattle.std.proofs.lemmas.Option.{slice_get-get_or}
+use Rattle.chex_base.specs.declared.input.Input.{Input}
+use Rattle.star_syntax.specs.declared.cell.Program.{Program}
 use Rattle.star_syntax.specs.CellParts.{CellParts}
-use Rattle.star_eval.specs.declared.cell.Ran.{Ran}
-use Rattle.star_eval.specs.declared.cell.End.TheVariants as end
-use Rattle.star_eval.specs.declared.failure.Failure.{Failure}
-use Rattle.star_eval.specs.State.{State}
-use Rattle.star_eval.specs.Meaning.{run_cell}
-use Rattle.chex_cli.specs.declared.checking.Runnable.{Runnable}
-use Rattle.chex_cli.specs.Texts.{text_by, version_text, run_text, job_text, failed_text}
+use Rattle.star_syntax.specs.Cells.{numbered}
+use Rattle.star_value.specs.declared.failure.Failure.{Failure}
+use Rattle.star_meaning.specs.declared.ran.End.TheVariants as end
+use Rattle.star_meaning.specs.declared.ran.Ran.{Ran}
+use Rattle.star_meaning.specs.Cells.{Shown, cell_text, end_text, if_done, ran, runs, runs_from, text, texts_from}
+use Rattle.star_meaning.specs.Validity.{IsValid, MachineState, after, cell_of, cell_or_none, no_cell, nothing_ran, ran_at, shown}
+use Rattle.star_meaning.proofs.RenamedCells.{after_shows}
+use Rattle.chex_cli.specs.declared.checking.Checked.{Checked}
+use Rattle.chex_cli.specs.Texts.{job_text, version_text}
 
-before_none : (o : Option (List ℕ)) → option_map (λ rest. [] ++ rest) o ≡ o
-before_none None = refl
-before_none (Some text) = refl
+-- what was written so far, before what the cells from this place on write, is what all write
+abbrev pub WrittenSo : List ℕ → List ℕ → ℕ → Program → MachineState → List CellParts → List (List ℕ × Input) → ℕ → Type 0
+WrittenSo before written place program m cells inputs allowance =
+    written ++ texts_from (place + 1) (runs_from (shown program m) (drop place cells) inputs allowance) ≡ before ++ text cells inputs allowance
 
-before_more : (a b : List ℕ) (o : Option (List ℕ)) → option_map (λ rest. a ++ rest) (option_map (λ rest. b ++ rest) o) ≡ option_map (λ rest. (a ++ b) ++ rest) o
-before_more a b None = refl
-before_more a b (Some text) = ap Some (sym (append_assoc a b text))
+pub written_first : (before : List ℕ) (program : Program) (cells : List CellParts) (inputs : List (List ℕ × Input)) (allowance : ℕ)
+    → WrittenSo before before 0 program nothing_ran cells inputs allowance
+unfolding text runs shown
+written_first before program cells inputs allowance = refl
 
--- what was written so far, before what the cells from this place on write, is the whole
-abbrev pub WrittenSo : List ℕ → ℕ → State → List CellParts → Type 0
-WrittenSo text place globals ms = option_map (λ rest. text ++ rest) (version_text (place + 1) globals (drop place ms)) ≡ version_text 1 [] ms
+pub written_last : (before written : List ℕ) (place : ℕ) (program : Program) (m : MachineState) (cells : List CellParts) (inputs : List (List ℕ × Input)) (allowance : ℕ)
+    → length cells ≤ place → WrittenSo before written place program m cells inputs allowance → written ≡ before ++ text cells inputs allowance
+written_last before written place program m cells inputs allowance past so =
+    sym (append-nil written) ∙ ap (λ rest. written ++ texts_from (place + 1) (runs_from (shown program m) rest inputs allowance)) (sym (drop_all place cells past)) ∙ so
 
-pub written_first : (ms : List CellParts) → WrittenSo [] 0 [] ms
-written_first ms = before_none (version_text 1 [] ms)
+-- the node after so many others is the next one
+numbered_at : {X : Type 0} (items : List X) (place n : ℕ) → n ≡ place + 1 → numbered items n ≡ slice_get items place
+numbered_at items place zero is = absurd (omega arith)
+numbered_at items place (suc i) is = ap (slice_get items) (omega arith)
 
-rest_is : (ms : List CellParts) (place : ℕ) (m : CellParts) → place < length ms → m ≡ get_or ms place m → drop place ms ≡ m ∷ drop (place + 1) ms
-rest_is ms place m inside here = drop_more ms place m inside ∙ ap (λ x. x ∷ drop (place + 1) ms) (sym here)
+cell_there : (cells : List CellParts) (place : ℕ) → place < length cells → numbered cells (place + 1) ≡ Some (get_or cells place no_cell)
+cell_there cells place inside = numbered_at cells place (place + 1) refl ∙ slice_get-get_or cells place no_cell inside
 
-text_at : (cell : ℕ) (globals : State) (m : CellParts) (ms : List CellParts)
-    → version_text cell globals (m ∷ ms) ≡ option_and_then (λ p. text_by cell p.0.out p.0.end (version_text (cell + 1) p.1 ms)) (run_cell m.module 1000000 globals)
-unfolding version_text
-text_at cell globals m ms = refl
+cell_next : (program : Program) (place : ℕ) → place < length program.cells → drop place program.cells ≡ cell_of program (place + 1) ∷ drop (place + 1) program.cells
+unfolding cell_of
+cell_next program place inside =
+    drop_more program.cells place no_cell inside ∙ ap (λ o. cell_or_none o ∷ drop (place + 1) program.cells) (sym (cell_there program.cells place inside))
 
-module _ (text : List ℕ) (place : ℕ) (globals : State) (ms : List CellParts) (m : CellParts) (inside : place < length ms) (here : m ≡ get_or ms place m) (so : WrittenSo text place globals ms) where
-  from_here : option_map (λ rest. text ++ rest) (option_and_then (λ p. text_by (place + 1) p.0.out p.0.end (version_text (place + 1 + 1) p.1 (drop (place + 1) ms))) (run_cell m.module 1000000 globals))
-      ≡ version_text 1 [] ms
-  from_here = ap (option_map (λ rest. text ++ rest)) (sym (ap (version_text (place + 1) globals) (rest_is ms place m inside here) ∙ text_at (place + 1) globals m (drop (place + 1) ms))) ∙ so
+-- it is a node of the program
+pub node_known : (cells : List CellParts) (place : ℕ) → place < length cells → IsTrue (is_some (numbered cells (place + 1)))
+node_known cells place inside = subst (λ o. IsTrue (is_some o)) (sym (cell_there cells place inside)) refl
 
-  pub written_undefined : run_cell m.module 1000000 globals ≡ None → None ≡ version_text 1 [] ms
-  written_undefined none =
-      ap (λ o. option_map (λ rest. text ++ rest) (option_and_then (λ p. text_by (place + 1) p.0.out p.0.end (version_text (place + 1 + 1) p.1 (drop (place + 1) ms))) o)) (sym none) ∙ from_here
+-- a machine before any cell is valid
+pub nothing_valid : (program : Program) → IsValid program nothing_ran
+unfolding IsStrictlySortedBy
+nothing_valid program = record {
+  kept = record { names = tt; characters = refl; nodes = refl; numbers = refl; keys = refl; references = refl; few = omega arith; room = omega arith };
+  values = refl;
+  nodes = refl;
+  functions = refl;
+}
 
-  ran_here : (ran : Ran) (after : State) → run_cell m.module 1000000 globals ≡ Some (ran, after)
-      → option_map (λ rest. text ++ rest) (text_by (place + 1) ran.out ran.end (version_text (place + 1 + 1) after (drop (place + 1) ms))) ≡ version_text 1 [] ms
-  ran_here ran after is =
-      ap (λ o. option_map (λ rest. text ++ rest) (option_and_then (λ p. text_by (place + 1) p.0.out p.0.end (version_text (place + 1 + 1) p.1 (drop (place + 1) ms))) o)) (sym is) ∙ from_here
+-- a cell that ran is one more
+pub ran_more : (program : Program) (m : MachineState) (node : ℕ) (inputs : List (List ℕ × Input)) (allowance : ℕ) → length (after program m node inputs allowance).ran ≡ length m.ran + 1
+unfolding after
+ran_more program m node inputs allowance = length-append m.ran (node ∷ [])
 
-  pub written_failed : (ran : Ran) (after : State) (why : Failure) (line : ℕ) → run_cell m.module 1000000 globals ≡ Some (ran, after) → ran.end ≡ end.Failed why line
-      → Some ((text ++ encode_utf8_all ran.out) ++ failed_text (place + 1) why line) ≡ version_text 1 [] ms
-  written_failed ran after why line is failed =
-      ap Some (append_assoc text (encode_utf8_all ran.out) (failed_text (place + 1) why line))
-      ∙ (ap (λ e. option_map (λ rest. text ++ rest) (text_by (place + 1) ran.out e (version_text (place + 1 + 1) after (drop (place + 1) ms)))) (sym failed) ∙ ran_here ran after is)
+module _ (before written : List ℕ) (place : ℕ) (program : Program) (m : MachineState) (inputs : List (List ℕ × Input)) (allowance : ℕ)
+    (inside : place < length program.cells) (so : WrittenSo before written place program m program.cells inputs allowance) where
+  abbrev result : Ran × Shown
+  result = ran (shown program m) (cell_of program (place + 1)) inputs allowance
 
-  pub written_more : (ran : Ran) (after : State) → run_cell m.module 1000000 globals ≡ Some (ran, after) → ran.end ≡ end.Done → WrittenSo (text ++ encode_utf8_all ran.out) (place + 1) after ms
-  written_more ran after is done =
-      sym (before_more text (encode_utf8_all ran.out) (version_text (place + 1 + 1) after (drop (place + 1) ms)))
-      ∙ (ap (λ e. option_map (λ rest. text ++ rest) (text_by (place + 1) ran.out e (version_text (place + 1 + 1) after (drop (place + 1) ms)))) (sym done) ∙ ran_here ran after is)
+  -- what the cell at this place writes, and then what is left to those after it
+  from_here : written ++ (cell_text (place + 1) result.0 ++ texts_from (place + 1 + 1) (if_done result.0.end (λ s. runs_from s (drop (place + 1) program.cells) inputs allowance) result.1))
+      ≡ before ++ text program.cells inputs allowance
+  from_here = ap (λ rest. written ++ texts_from (place + 1) (runs_from (shown program m) rest inputs allowance)) (sym (cell_next program place inside)) ∙ so
 
-pub written_last : (text : List ℕ) (place : ℕ) (globals : State) (ms : List CellParts) → length ms ≤ place → WrittenSo text place globals ms → Some text ≡ version_text 1 [] ms
-unfolding version_text
-written_last text place globals ms past so =
-    ap Some (sym (append-nil text)) ∙ (ap (λ rest. option_map (λ more. text ++ more) (version_text (place + 1) globals rest)) (sym (drop_all place ms past)) ∙ so)
+  pub written_more : (r : Ran) → r ≡ ran_at program m (place + 1) inputs allowance → r.end ≡ end.Done
+      → WrittenSo before (written ++ r.out) (place + 1) program (after program m (place + 1) inputs allowance) program.cells inputs allowance
+  unfolding ran_at cell_text
+  written_more r is done =
+      let ended : result.0.end ≡ end.Done = ap (λ (r : Ran). r.end) (sym is) ∙ done in
+      let more : List ℕ = texts_from (place + 1 + 1) (runs_from result.1 (drop (place + 1) program.cells) inputs allowance) in
+      let here : written ++ ((result.0.out ++ []) ++ more) ≡ before ++ text program.cells inputs allowance =
+      subst (λ e. written ++ ((result.0.out ++ end_text (place + 1) e) ++ texts_from (place + 1 + 1) (if_done e (λ s. runs_from s (drop (place + 1) program.cells) inputs allowance) result.1))
+      ≡ before ++ text program.cells inputs allowance) ended from_here in
+      ap (λ s. (written ++ r.out) ++ texts_from (place + 1 + 1) (runs_from s (drop (place + 1) program.cells) inputs allowance)) (after_shows program m (place + 1) inputs allowance)
+      ∙ ap (λ (x : Ran). (written ++ x.out) ++ more) is
+      ∙ append_assoc written result.0.out more
+      ∙ ap (λ o. written ++ (o ++ more)) (sym (append-nil result.0.out))
+      ∙ here
 
--- the same of versions
-abbrev pub JobSo : List ℕ → ℕ → Bool → List Runnable → Type 0
-JobSo text place headed runs = option_map (λ rest. text ++ rest) (job_text headed (drop place runs)) ≡ job_text headed runs
+  pub written_failed : (r : Ran) (why : Failure) (line : ℕ) → r ≡ ran_at program m (place + 1) inputs allowance → r.end ≡ end.Failed why line
+      → (written ++ r.out) ++ end_text (place + 1) (end.Failed why line) ≡ before ++ text program.cells inputs allowance
+  unfolding ran_at cell_text
+  written_failed r why line is failed =
+      let ended : result.0.end ≡ end.Failed why line = ap (λ (r : Ran). r.end) (sym is) ∙ failed in
+      let here : written ++ ((result.0.out ++ end_text (place + 1) (end.Failed why line)) ++ []) ≡ before ++ text program.cells inputs allowance =
+      subst (λ e. written ++ ((result.0.out ++ end_text (place + 1) e) ++ texts_from (place + 1 + 1) (if_done e (λ s. runs_from s (drop (place + 1) program.cells) inputs allowance) result.1))
+      ≡ before ++ text program.cells inputs allowance) ended from_here in
+      append_assoc written r.out (end_text (place + 1) (end.Failed why line))
+      ∙ ap (λ (x : Ran). written ++ (x.out ++ end_text (place + 1) (end.Failed why line))) is
+      ∙ ap (λ o. written ++ o) (sym (append-nil (result.0.out ++ end_text (place + 1) (end.Failed why line))))
+      ∙ here
 
-pub job_first : (headed : Bool) (runs : List Runnable) → JobSo [] 0 headed runs
-job_first headed runs = before_none (job_text headed runs)
+-- ---- the line of a failed cell, in pieces
 
-run_at : (headed : Bool) (run : Runnable) (runs : List Runnable) → job_text headed (run ∷ runs) ≡ option_and_then (λ text. option_map (λ rest. text ++ rest) (job_text headed runs)) (run_text headed run)
+pieces : (before a b c d e f g : List ℕ) → ((((((before ++ a) ++ b) ++ c) ++ d) ++ e) ++ f) ++ g ≡ before ++ ((((((a ++ b) ++ c) ++ d) ++ e) ++ f) ++ g)
+pieces before a b c d e f g =
+    let two = append_assoc before a b in
+    let three = ap (λ t. t ++ c) two ∙ append_assoc before (a ++ b) c in
+    let four = ap (λ t. t ++ d) three ∙ append_assoc before ((a ++ b) ++ c) d in
+    let five = ap (λ t. t ++ e) four ∙ append_assoc before (((a ++ b) ++ c) ++ d) e in
+    let six = ap (λ t. t ++ f) five ∙ append_assoc before ((((a ++ b) ++ c) ++ d) ++ e) f in
+    ap (λ t. t ++ g) six ∙ append_assoc before (((((a ++ b) ++ c) ++ d) ++ e) ++ f) g
+
+pub failed_pieces : (before name cell line : List ℕ)
+    → ((((((before ++ chars (codes "error: ")) ++ name) ++ chars (codes " at cell ")) ++ cell) ++ chars (codes " line ")) ++ line) ++ chars (codes "\n")
+    ≡ before ++ (codes "error: " ++ name ++ codes " at cell " ++ cell ++ codes " line " ++ line ++ 10 ∷ [])
+unfolding chars
+failed_pieces before name cell line = pieces before (codes "error: ") name (codes " at cell ") cell (codes " line ") line (codes "\n")
+
+-- ---- versions one after the other
+
+pub job_first : (headed : Bool) (allowance : ℕ) → [] ≡ job_text headed allowance []
 unfolding job_text
-run_at headed run runs = refl
+job_first headed allowance = refl
 
-module _ (text : List ℕ) (place : ℕ) (headed : Bool) (runs : List Runnable) (run : Runnable) (inside : place < length runs) (here : run ≡ get_or runs place run) (so : JobSo text place headed runs) where
-  job_here : option_map (λ rest. text ++ rest) (option_and_then (λ text. option_map (λ rest. text ++ rest) (job_text headed (drop (place + 1) runs))) (run_text headed run)) ≡ job_text headed runs
-  job_here = ap (option_map (λ rest. text ++ rest)) (sym (ap (job_text headed) (drop_more runs place run inside ∙ ap (λ x. x ∷ drop (place + 1) runs) (sym here)) ∙ run_at headed run (drop (place + 1) runs))) ∙ so
-
-  pub job_undefined : None ≡ run_text headed run → None ≡ job_text headed runs
-  job_undefined none =
-      ap (λ o. option_map (λ rest. text ++ rest) (option_and_then (λ text. option_map (λ rest. text ++ rest) (job_text headed (drop (place + 1) runs))) o)) none ∙ job_here
-
-  pub job_more : (more : List ℕ) → Some more ≡ run_text headed run → JobSo (text ++ more) (place + 1) headed runs
-  job_more more is =
-      sym (before_more text more (job_text headed (drop (place + 1) runs)))
-      ∙ (ap (λ o. option_map (λ rest. text ++ rest) (option_and_then (λ text. option_map (λ rest. text ++ rest) (job_text headed (drop (place + 1) runs))) o)) is ∙ job_here)
-
-pub job_last : (text : List ℕ) (place : ℕ) (headed : Bool) (runs : List Runnable) → length runs ≤ place → JobSo text place headed runs → Some text ≡ job_text headed runs
+pub job_more : (headed : Bool) (allowance : ℕ) (done : List Checked) (version : Checked)
+    → job_text headed allowance done ++ version_text headed allowance version ≡ job_text headed allowance (done ++ version ∷ [])
 unfolding job_text
-job_last text place headed runs past so =
-    ap Some (sym (append-nil text)) ∙ (ap (λ rest. option_map (λ more. text ++ more) (job_text headed rest)) (sym (drop_all place runs past)) ∙ so)
+job_more headed allowance done version =
+    ap (λ t. job_text headed allowance done ++ t) (sym (append-nil (version_text headed allowance version)))
+    ∙ sym (flat_map-append (version_text headed allowance) done (version ∷ []))

@@ -1,27 +1,35 @@
--- The versions that run, and the first cell that is refused.
-use Rattle.std.specs.Prelude.{◌≡◌, ◌+◌, ℕ, Bool, List, ◌∷◌, ◌++◌, length}
-use Rattle.std.specs.List.{AllByRecursion, AllZip, list_all}
+-- The versions with their cells, and the first cell that is refused.
+use Rattle.std.specs.Prelude.{◌≡◌, ◌≤◌, ◌+◌, ℕ, List, ◌∷◌, ◌++◌, length, Result, Ok, Err}
+use Rattle.std.specs.List.{AllByRecursion, AllZip}
 use Rattle.nb_reader.specs.Notebook.{AreShort}
 use Rattle.star_syntax.specs.CellParts.{CellParts}
-use Rattle.star_eval.specs.Thin.{is_thin}
 use Rattle.chex_cli.specs.declared.cell.Reason.{Reason}
 use Rattle.chex_cli.specs.declared.version.Version.{Version}
 use Rattle.chex_cli.specs.declared.bad_cell.BadCell.{BadCell}
-use Rattle.chex_cli.specs.declared.checking.Runnable.{Runnable}
+use Rattle.chex_cli.specs.declared.checking.Checked.{Checked}
+use Rattle.chex_cli.specs.declared.refusal.Refusal.{Refusal}
+use Rattle.chex_cli.specs.declared.refusal.Refusal.TheVariants as refusal
+use Rattle.chex_cli.specs.Stages.{Stage}
 use Rattle.chex_cli.specs.Cells.{IsCellOf, IsWrong}
 
--- each source of each version has at most 65,536 bytes
-abbrev pub AreAllShort : List Version → Type 0
-AreAllShort versions = AllByRecursion (λ version. AreShort version.sources) versions
+-- at most 64 sources, each of at most 65,536 bytes
+abbrev pub AreSources : List (List ℕ) → Type 0
+AreSources sources = AreShort sources × (length sources ≤ 64)
+
+abbrev pub IsSmall : Version → Type 0
+IsSmall version = AreSources version.sources
+
+abbrev pub AreSmall : List Version → Type 0
+AreSmall versions = AllByRecursion IsSmall versions
 
 -- ---- all is well
 
--- the version's name, and the cells of its sources in order
-abbrev pub IsRunnable : Version → Runnable → Type 0
-IsRunnable version run = (run.name ≡ version.name) × AllZip IsCellOf version.sources run.cells
+-- the version's name and inputs, and the cells of its sources in order
+abbrev pub IsChecked : Version → Checked → Type 0
+IsChecked version checked = (checked.name ≡ version.name) × (checked.inputs ≡ version.inputs) × AllZip IsCellOf version.sources checked.cells
 
-abbrev pub AreRunnable : List Version → List Runnable → Type 0
-AreRunnable = AllZip IsRunnable
+abbrev pub AreChecked : List Version → List Checked → Type 0
+AreChecked = AllZip IsChecked
 
 -- ---- the first that is wrong
 
@@ -46,16 +54,20 @@ IsBadIn version bad = (bad.name ≡ version.name) × IsFirstSource version.sourc
 
 -- the first version with such a source, and the first there
 abbrev pub IsFirstBad : List Version → BadCell → Type 0
-IsFirstBad versions bad = (number : ℕ) × IsFirst IsRunnable IsBadIn versions number bad
+IsFirstBad versions bad = (number : ℕ) × IsFirst IsChecked IsBadIn versions number bad
 
--- ---- the forms that run today
+-- ---- the stage
 
-abbrev pub is_thin_cell : CellParts → Bool
-is_thin_cell cell = is_thin cell.module
+-- the refusal of a cell of which this holds, or want of memory
+abbrev pub IsCellRefusal : (BadCell → Type 0) → Refusal → Type 0
+IsCellRefusal Holds (refusal.BadCell bad) = Holds bad
+IsCellRefusal Holds refusal.NoMemory = Unit {0}
+IsCellRefusal Holds refusal.Usage = ⊥
+IsCellRefusal Holds (refusal.Absent file) = ⊥
+IsCellRefusal Holds (refusal.ReadFailed file) = ⊥
+IsCellRefusal Holds (refusal.BadFile file fault) = ⊥
 
-abbrev pub is_thin_run : Runnable → Bool
-is_thin_run run = list_all is_thin_cell run.cells
-
--- all cells of all versions are thin
-abbrev pub are_thin : List Runnable → Bool
-are_thin runs = list_all is_thin_run runs
+-- all versions with their cells, or the first cell that is refused
+abbrev pub checked : List Version → Stage (List Checked)
+checked versions (Ok all) = AreChecked versions all
+checked versions (Err why) = IsCellRefusal (IsFirstBad versions) why

@@ -2,6 +2,7 @@ pub mod Words
 pub mod Refusals
 pub mod Reads
 pub mod Files
+pub mod Stages
 pub mod Cells
 pub mod BadCells
 pub mod Jobs

@@ -7,7 +7,7 @@ use Rattle.nb_reader.specs.declared.fault.NbFault.{NbFault}
 use Rattle.nb_reader.specs.declared.fault.NbFault.TheVariants.{TooMany}
 use Rattle.nb_reader.specs.declared.fault.Counted.TheVariants as count
 use Rattle.chex_cli.specs.declared.refusal.Refusal.{Refusal}
-use Rattle.chex_cli.specs.declared.refusal.Refusal.TheVariants.{Usage, Absent, ReadFailed, BadFile, NoMemory}
+use Rattle.chex_cli.specs.declared.refusal.Refusal.TheVariants.{Usage, Absent, ReadFailed, BadFile, BadCell, NoMemory}
 
 -- the bytes of each file, by the bytes of its name
 abbrev pub FileView : Type 0
@@ -52,6 +52,7 @@ Refuses read (ReadFailed file) = Contains read.0 file
 Refuses read Usage = read.1 ≡ Err Usage
 Refuses read (Absent file) = read.1 ≡ Err (Absent file)
 Refuses read (BadFile file fault) = read.1 ≡ Err (BadFile file fault)
+Refuses read (BadCell bad) = read.1 ≡ Err (BadCell bad)
 
 -- an answer is what the reading gives
 abbrev pub Answers : {T : Type 0} → Read T → Result T Refusal → Type 0
@@ -64,4 +65,5 @@ IsCounted (Absent file) absences_old absences_new faults_old faults_new = Rose a
 IsCounted (ReadFailed file) absences_old absences_new faults_old faults_new = Rose faults_old faults_new
 IsCounted Usage absences_old absences_new faults_old faults_new = ⊥
 IsCounted (BadFile file fault) absences_old absences_new faults_old faults_new = Unit {0}
+IsCounted (BadCell bad) absences_old absences_new faults_old faults_new = Unit {0}
 IsCounted NoMemory absences_old absences_new faults_old faults_new = Unit {0}

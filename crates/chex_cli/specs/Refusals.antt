@@ -12,6 +12,7 @@ use Rattle.nb_reader.specs.declared.fault.Counted.TheVariants as count
 use Rattle.chex_cli.specs.declared.refusal.Refusal.{Refusal}
 use Rattle.chex_cli.specs.declared.refusal.Refusal.TheVariants.{Usage, Absent, ReadFailed, BadFile}
 use Rattle.chex_cli.specs.declared.refusal.Refusal.TheVariants as refusal
+use Rattle.chex_cli.specs.BadCells as cells
 
 -- a count that passes its limit has a status of its own
 abbrev pub file_status : NbFault → Status
@@ -32,6 +33,7 @@ status_of Usage = status.Usage
 status_of (Absent file) = status.Absent
 status_of (ReadFailed file) = status.ReadFault
 status_of (BadFile file fault) = file_status fault
+status_of (refusal.BadCell bad) = status.BadCell
 status_of refusal.NoMemory = status.NoMemory
 
 -- what was counted, in words
@@ -84,4 +86,5 @@ line_of Usage = codes "error: usage\n"
 line_of (Absent file) = absent_line (encode_utf8_all file)
 line_of (ReadFailed file) = failed_line (encode_utf8_all file)
 line_of (BadFile file fault) = bad_line (encode_utf8_all file) (reason fault)
+line_of (refusal.BadCell bad) = cells.line_of bad
 line_of refusal.NoMemory = []

@@ -1,92 +1,68 @@
 //! Looks at the sources of versions, and makes their cells.
-ghost use Rattle.std.specs.Prelude.{◌≡◌, IfOk, MatchResult};
-ghost use Rattle.std.specs.List.{AllZip, list_all};
-ghost use Rattle.nb_reader.specs.Notebook.{AreShort};
-ghost use Rattle.chex_cli.specs.Cells.{IsCellOf};
+ghost use Rattle.std.specs.Prelude.{Err, IfErr, IfOk};
 ghost use Rattle.chex_cli.specs.Jobs as spec;
 
 use crate::bad_cell::BadCell;
 use crate::cell::CellFault;
 use crate::known::Known;
-use crate::version::Version;
-use chex_base::{NoMemory, Text};
-use star_eval::is_thin;
-use star_syntax::{Cell, Cells};
+use crate::refusal::Refusal;
+use crate::version::{Version, Versions};
+use chex_base::{Inputs, Text};
+use star_syntax::Cells;
 use std::alloc::Global;
 
-/// A version that runs: its name, and its cells.
+/// A version whose cells are accepted: its name, its cells in order, and its inputs.
 #[derive(Drop)]
-pub struct Runnable {
+pub struct Checked {
     pub name: Text,
     pub cells: Cells,
+    pub inputs: Inputs,
 }
 
 /// The versions with their cells, or the first cell that is refused: that of the first version with
 /// one, and the first there. Equal sources are looked at once.
-pub fn runnables(
-    alloc: Global,
-    versions: &[Version],
-) -> Result<Result<Vec<Runnable>, BadCell>, NoMemory>
-    requires { spec.AreAllShort versions.now }
-    ensures { IfOk result (λ found. MatchResult found (λ runs. spec.AreRunnable versions.now runs.items) (spec.IsFirstBad versions.now)) }
+pub fn checked_versions(alloc: Global, versions: Versions) -> Result<Vec<Checked>, Refusal>
+    requires { spec.AreSmall versions }
+    ensures ok { IfOk result (λ all. spec.AreChecked versions all.items) }
+    ensures refused { IfErr result (spec.IsCellRefusal (spec.IsFirstBad versions)) }
 {
     let mut known = Known::new(alloc);
-    let mut runs = Vec::new(alloc);
-    for version in versions {
-        match cells_of(alloc, &mut known, version)? {
-            Ok(cells) => runs.push(Runnable {
-                name: version.name.copy(alloc)?,
-                cells,
-            })?,
-            Err(bad) => return Ok(Err(bad)),
-        }
+    let mut all = Vec::new(alloc);
+    for version in versions.into_vec() {
+        all.push(checked_version(alloc, &mut known, version)?)?;
     }
-    Ok(Ok(runs))
+    Ok(all)
 }
 
-/// The cells of a version, or the first that is refused.
-fn cells_of(
-    alloc: Global,
-    known: &mut Known,
-    version: &Version,
-) -> Result<Result<Cells, BadCell>, NoMemory>
-    requires { AreShort version.now.sources }
-    ensures { IfOk result (λ found. MatchResult found (λ cells. AllZip IsCellOf version.now.sources cells) (spec.IsBadIn version.now)) }
+/// A version with its cells, or its first cell that is refused.
+fn checked_version(alloc: Global, known: &mut Known, version: Version) -> Result<Checked, Refusal>
+    requires { spec.IsSmall version }
+    ensures ok { IfOk result (spec.IsChecked version) }
+    ensures refused { IfErr result (spec.IsCellRefusal (spec.IsBadIn version)) }
 {
-    let sources = version.sources.as_slice();
+    let Version {
+        name,
+        sources,
+        inputs,
+    } = version;
     let mut cells = Vec::new(alloc);
-    for (place, source) in sources.iter().enumerate() {
+    for (place, source) in sources.as_slice().iter().enumerate() {
         match known.cell_of(alloc, source) {
             Ok(cell) => cells.push(cell)?,
             Err(CellFault::Bad { reason, line }) => {
-                return Ok(Err(BadCell {
-                    name: version.name.copy(alloc)?,
+                return Err(Refusal::BadCell(BadCell {
+                    name,
                     cell: place + 1,
                     reason,
                     line,
                 }));
             }
-            Err(CellFault::NoMemory) => return Err(NoMemory),
+            Err(CellFault::NoMemory) => return Err(Refusal::NoMemory),
         }
     }
-    Ok(Ok(Cells::from_vec(cells)))
-}
-
-/// Whether all cells of all versions are of the forms that run today.
-pub fn are_thin(runs: &[Runnable]) -> bool
-    ensures { result ≡ spec.are_thin runs.now }
-{
-    runs.iter().all(|run| is_thin_run(run))
-}
-
-fn is_thin_run(run: &Runnable) -> bool
-    ensures { result ≡ spec.is_thin_run run.now }
-{
-    run.cells.as_slice().iter().all(|cell| is_thin_cell(cell))
-}
-
-fn is_thin_cell(cell: &Cell) -> bool
-    ensures { result ≡ spec.is_thin_cell cell.now }
-{
-    is_thin(cell.module())
+    Ok(Checked {
+        name,
+        cells: Cells::from_vec(cells),
+        inputs,
+    })
 }

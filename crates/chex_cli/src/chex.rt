@@ -1,12 +1,11 @@
 //! The top call.
-ghost use Rattle.std.specs.Prelude.{◌≡◌, ◌≢◌, ◌≤◌, None, Some, Ok, Err, true, false, IfSome, List, map, string_bytes};
+ghost use Rattle.std.specs.Prelude.{◌≡◌, ◌≢◌, ◌≤◌, ℕ, None, Some, Ok, Err, IfSome, List, map, string_bytes};
 ghost use Rattle.std.specs.Process.{exit_status};
 ghost use Rattle.chex_base.specs.Numbers.{number_of};
 ghost use Rattle.chex_base.specs.Outside.{GrewBy, Rose};
-ghost use Rattle.chex_cli.specs.Files.{job_at};
-ghost use Rattle.chex_cli.specs.Ends.{IsDue, Wrote, Yields};
+ghost use Rattle.chex_cli.specs.Ends.{IsDue, Wrote, Yields, due};
 ghost use Rattle.chex_cli.specs.Refusals.{status_of};
-ghost use Rattle.chex_cli.specs.Jobs.{AreRunnable, IsFirstBad, are_thin};
+ghost use Rattle.chex_cli.specs.Stages.{IsCertain};
 ghost use Rattle.chex_cli.specs.Words.{command_of};
 
 use crate::decide::decide;
@@ -55,21 +54,15 @@ pub fn chex<L: Library, W: Sink>(
     ensures counts { (L.absences library.old ≤ L.absences library.new) × (L.faults library.old ≤ L.faults library.new) × (W.faults out.old ≤ W.faults out.new) }
     // Words that are no command are refused, unless memory is wanting or the write fails.
     ensures usage { command_of (map string_bytes words.now) ≡ None → Yields Status.Usage result.status }
-    // So is what the words and the files refuse, with the status of the first refusal, unless a read fails too;
-    ensures refused { IfSome (L.files library.old) (λ file. (r : _) → (job_at file (map string_bytes words.now)).1 ≡ Err r → Yields (status_of r) result.status) }
-    // and so are versions of which some source gives no cell, and versions of which some cell is not thin. Versions whose cells all are thin run.
-    ensures bad_cell { IfSome (L.files library.old) (λ file. (job : _) (bad : _) → (job_at file (map string_bytes words.now)).1 ≡ Ok job → IsFirstBad job.versions bad
-        → Yields Status.BadCell result.status) }
-    ensures not_built { IfSome (L.files library.old) (λ file. (job : _) (runs : _) → (job_at file (map string_bytes words.now)).1 ≡ Ok job → AreRunnable job.versions runs
-        → are_thin runs ≡ false → Yields Status.NotBuilt result.status) }
-    ensures done { IfSome (L.files library.old) (λ file. (job : _) (runs : _) → (job_at file (map string_bytes words.now)).1 ≡ Ok job → AreRunnable job.versions runs
-        → are_thin runs ≡ true → Yields Status.Done result.status) }
+    // So is what the words and the files refuse, with the status of the refusal, unless a read fails too; and where they refuse nothing, the versions run.
+    ensures refused { IfSome (L.files library.old) (λ file. (why : _) → due file (map string_bytes words.now) (Err why) → IsCertain {A = List ℕ} (Err why) → Yields (status_of why) result.status) }
+    ensures done { IfSome (L.files library.old) (λ file. (text : _) → due file (map string_bytes words.now) (Ok text) → Yields Status.Done result.status) }
 {
     match decide(alloc, words, library) {
         Err(NoMemory) => Finish {
             status: Status::NoMemory,
         },
-        Ok(decision) => match out.write(decision.text.as_bytes()) {
+        Ok(decision) => match out.write(decision.text.as_str().as_bytes()) {
             Ok(()) => Finish {
                 status: decision.status,
             },

@@ -2,11 +2,11 @@
 ghost use Rattle.std.specs.Prelude.{◌≡◌, ◌≤◌, ◌⊎◌, ℕ, List, Result, None, Ok, Err, IfOk, IfErr, IfSome, map, string_bytes};
 ghost use Rattle.nb_reader.specs.Inputs.{inputs_file_of};
 ghost use Rattle.nb_reader.specs.Manifest.{manifest_of};
-ghost use Rattle.nb_reader.specs.Notebook.{AreShort, notebook_of};
+ghost use Rattle.nb_reader.specs.Notebook.{notebook_of};
 ghost use Rattle.nb_reader.specs.Reading.{IsReading};
 ghost use Rattle.nb_reader.specs.declared.fault.NbFault.{NbFault};
 ghost use Rattle.chex_cli.specs.Files as spec;
-ghost use Rattle.chex_cli.specs.Jobs.{AreAllShort};
+ghost use Rattle.chex_cli.specs.Jobs.{AreSmall, AreSources, IsSmall};
 ghost use Rattle.chex_cli.specs.Reads as reads;
 ghost use Rattle.chex_cli.specs.Reads.{Answers, IsCounted, Refuses};
 ghost use Rattle.chex_cli.specs.Words as asked;
@@ -40,7 +40,7 @@ trait Format {
 impl Format for Sources {
     ghost reading = { notebook_of };
 
-    ghost kept = { AreShort };
+    ghost kept = { AreSources };
 
     fn parse(alloc: Global, bytes: &[u8]) -> Result<Sources, NbFault> {
         read_notebook(alloc, bytes)
@@ -79,7 +79,7 @@ pub fn read_job<L: Library>(
     ensures later { (L.absences library.old ≤ L.absences library.new) × (L.faults library.old ≤ L.faults library.new) }
     ensures files { L.files library.new ≡ L.files library.old }
     ensures usage { asked.command_of (map string_bytes words.now) ≡ None → (result ≡ Err Refusal.Usage) ⊎ (result ≡ Err Refusal.NoMemory) }
-    ensures short { IfOk result (λ job. AreAllShort job.versions) }
+    ensures short { IfOk result (λ job. AreSmall job.versions) }
 {
     match command_of(alloc, words)? {
         None => Err(Refusal::Usage),
@@ -97,7 +97,7 @@ fn command_job<L: Library>(
     ensures counted { IfErr result (λ r. IsCounted r (L.absences library.old) (L.absences library.new) (L.faults library.old) (L.faults library.new)) }
     ensures later { (L.absences library.old ≤ L.absences library.new) × (L.faults library.old ≤ L.faults library.new) }
     ensures files { L.files library.new ≡ L.files library.old }
-    ensures short { IfOk result (λ job. AreAllShort job.versions) }
+    ensures short { IfOk result (λ job. AreSmall job.versions) }
 {
     match command {
         Command::Solo(name) => solo(alloc, library, name),
@@ -111,7 +111,7 @@ fn solo<L: Library>(alloc: Global, library: &mut L, name: &Text) -> Result<Job, 
     ensures counted { IfErr result (λ r. IsCounted r (L.absences library.old) (L.absences library.new) (L.faults library.old) (L.faults library.new)) }
     ensures later { (L.absences library.old ≤ L.absences library.new) × (L.faults library.old ≤ L.faults library.new) }
     ensures files { L.files library.new ≡ L.files library.old }
-    ensures short { IfOk result (λ job. AreAllShort job.versions) }
+    ensures short { IfOk result (λ job. AreSmall job.versions) }
 {
     let sources = file::<L, Sources>(alloc, library, name)?;
     Ok(solo_job(alloc, sources)?)
@@ -123,7 +123,7 @@ fn alone<L: Library>(alloc: Global, library: &mut L, name: &Text) -> Result<Job,
     ensures counted { IfErr result (λ r. IsCounted r (L.absences library.old) (L.absences library.new) (L.faults library.old) (L.faults library.new)) }
     ensures later { (L.absences library.old ≤ L.absences library.new) × (L.faults library.old ≤ L.faults library.new) }
     ensures files { L.files library.new ≡ L.files library.old }
-    ensures short { IfOk result (λ job. AreAllShort job.versions) }
+    ensures short { IfOk result (λ job. AreSmall job.versions) }
 {
     let manifest = file::<L, Manifest>(alloc, library, name)?;
     let versions = all_versions(alloc, library, manifest.versions.as_slice())?;
@@ -159,7 +159,7 @@ fn all_versions<L: Library>(
     ensures counted { IfErr result (λ r. IsCounted r (L.absences library.old) (L.absences library.new) (L.faults library.old) (L.faults library.new)) }
     ensures later { (L.absences library.old ≤ L.absences library.new) × (L.faults library.old ≤ L.faults library.new) }
     ensures files { L.files library.new ≡ L.files library.old }
-    ensures short { IfOk result AreAllShort }
+    ensures short { IfOk result AreSmall }
 {
     let mut versions = Versions::new(alloc);
     for entry in entries {
@@ -175,7 +175,7 @@ fn version_in<L: Library>(alloc: Global, library: &mut L, entry: &Entry) -> Resu
     ensures counted { IfErr result (λ r. IsCounted r (L.absences library.old) (L.absences library.new) (L.faults library.old) (L.faults library.new)) }
     ensures later { (L.absences library.old ≤ L.absences library.new) × (L.faults library.old ≤ L.faults library.new) }
     ensures files { L.files library.new ≡ L.files library.old }
-    ensures short { IfOk result (λ version. AreShort version.sources) }
+    ensures short { IfOk result IsSmall }
 {
     let sources = file::<L, Sources>(alloc, library, &entry.notebook)?;
     let inputs = named_inputs(alloc, library, &entry.inputs)?;

@@ -3,6 +3,7 @@ ghost use Rattle.std.specs.Prelude.{◌≡◌, ◌⊎◌, ◌≢◌, IfOk, strin
 ghost use Rattle.chex_cli.specs.Refusals as spec;
 ghost use Rattle.chex_cli.specs.declared.refusal.Refusal.TheVariants as variant;
 
+use crate::bad_cell::BadCell;
 use chex_base::{NoMemory, Status, Text};
 use nb_reader::{Counted, NbFault};
 use std::alloc::{AllocError, AllocFailed, Global};
@@ -18,6 +19,8 @@ pub enum Refusal {
     ReadFailed { file: Text },
     /// The file is not of its format, or a count in it passes its limit.
     BadFile { file: Text, fault: NbFault },
+    /// A cell is refused, the first in the order of the versions and of their cells.
+    BadCell(BadCell),
     /// Memory was wanting.
     NoMemory,
 }
@@ -32,6 +35,7 @@ impl Refusal {
             Refusal::Absent { .. } => Status::Absent,
             Refusal::ReadFailed { .. } => Status::ReadFault,
             Refusal::BadFile { fault, .. } => file_status(fault),
+            Refusal::BadCell(_) => Status::BadCell,
             Refusal::NoMemory => Status::NoMemory,
         }
     }
@@ -49,6 +53,7 @@ impl Refusal {
                 let why = reason(alloc, fault)?;
                 bad_line(alloc, file.as_str(), why.as_str())
             }
+            Refusal::BadCell(bad) => bad.line(alloc),
             Refusal::NoMemory => Ok(String::new(alloc)),
         }
     }

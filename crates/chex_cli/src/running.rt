@@ -1,94 +1,112 @@
 //! The text that versions print.
-ghost use Rattle.std.specs.Prelude.{◌≡◌, [], IfOk, option_map, string_bytes};
+ghost use Rattle.std.specs.Prelude.{◌≡◌, ◌≤◌, ◌++◌, IfOk, OnOk, length};
+ghost use Rattle.std.specs.List.{AllByRecursion};
+ghost use Rattle.std.specs.Str.{chars};
+ghost use Rattle.star_meaning.specs.Cells as meaning;
+ghost use Rattle.chex_cli.specs.Ends.{most_steps};
 ghost use Rattle.chex_cli.specs.Texts as spec;
 
-use crate::checking::Runnable;
-use chex_base::{NoMemory, Text};
+use crate::checking::Checked;
+use chex_base::{Inputs, NoMemory, NodeId, Text};
 use chex_report::header;
-use star_eval::{End, Failure, Globals, RunFault, run_cell};
-use star_syntax::Cell;
+use heap_store::Machine;
+use star_meaning::End;
+use star_run::run_cell;
+use star_syntax::{Cells, Program};
+use star_value::Failure;
 use std::alloc::Global;
 
 /// How many steps a cell may take.
 const MOST_STEPS: u64 = 1_000_000;
 
-/// The text of versions in order, each run alone from no globals. None where a cell has no meaning
-/// yet, which no thin cell is.
-pub fn job_text(alloc: Global, headed: bool, runs: &[Runnable]) -> Result<Option<String>, NoMemory>
-    ensures { IfOk result (λ text. option_map string_bytes text ≡ spec.job_text headed runs.now) }
+/// The text of versions in order, each run alone from the empty state.
+pub fn job_text(alloc: Global, headed: bool, versions: Vec<Checked>) -> Result<Text, NoMemory>
+    requires { AllByRecursion (λ version. length version.cells ≤ 64) versions.items }
+    ensures { IfOk result (λ text. text ≡ spec.job_text headed most_steps versions.items) }
 {
-    let mut text = String::new(alloc);
-    for run in runs {
-        match run_text(alloc, headed, run)? {
-            None => return Ok(None),
-            Some(more) => text.push_str(more.as_str())?,
-        }
+    let mut text = Text::new(alloc);
+    for version in versions {
+        add_version(alloc, headed, version, &mut text)?;
     }
-    Ok(Some(text))
+    Ok(text)
 }
 
-/// The text of one version alone.
-fn run_text(alloc: Global, headed: bool, run: &Runnable) -> Result<Option<String>, NoMemory>
-    ensures { IfOk result (λ text. option_map string_bytes text ≡ spec.run_text headed run.now) }
+/// Adds the text of one version, with its header where versions have one.
+fn add_version(
+    alloc: Global,
+    headed: bool,
+    version: Checked,
+    text: &mut Text,
+) -> Result<(), NoMemory>
+    requires { length version.cells ≤ 64 }
+    ensures { OnOk result (text.new ≡ text.old ++ spec.version_text headed most_steps version) }
 {
-    let mut text = header_if(alloc, headed, &run.name)?;
-    match version_text(alloc, run.cells.as_slice())? {
-        None => Ok(None),
-        Some(more) => {
-            text.push_str(more.as_str())?;
-            Ok(Some(text))
-        }
-    }
+    let Checked {
+        name,
+        cells,
+        inputs,
+    } = version;
+    add_header(alloc, headed, &name, text)?;
+    add_cells(alloc, cells, &inputs, text)
 }
 
-/// The line before a version's text, where versions have one.
-fn header_if(alloc: Global, headed: bool, name: &Text) -> Result<String, NoMemory>
-    ensures { IfOk result (λ text. string_bytes text ≡ spec.header_if headed name.now) }
+/// Adds the line before a version's text, where versions have one.
+fn add_header(alloc: Global, headed: bool, name: &Text, text: &mut Text) -> Result<(), NoMemory>
+    ensures { OnOk result (text.new ≡ text.old ++ spec.header_if headed name.now) }
 {
     if headed {
         let line = header(alloc, name)?;
-        Ok(String::from_str(alloc, line.as_str())?)
-    } else {
-        Ok(String::new(alloc))
+        text.push_text(&line)?;
     }
+    Ok(())
 }
 
-/// The text of cells, run one after the other from no globals, up to the first that fails.
-fn version_text(alloc: Global, cells: &[Cell]) -> Result<Option<String>, NoMemory>
-    ensures { IfOk result (λ text. option_map string_bytes text ≡ spec.version_text 1 [] cells.now) }
+/// Adds what cells write, run one after the other from the empty state, up to and with the first
+/// that fails.
+fn add_cells(alloc: Global, cells: Cells, inputs: &Inputs, text: &mut Text) -> Result<(), NoMemory>
+    requires { length cells ≤ 64 }
+    ensures { OnOk result (text.new ≡ text.old ++ meaning.text cells inputs.now most_steps) }
 {
-    let mut globals = Globals::new(alloc);
-    let mut text = String::new(alloc);
-    for (place, cell) in cells.iter().enumerate() {
-        let ran = match run_cell(alloc, &mut globals, cell.module(), MOST_STEPS) {
-            Ok(ran) => ran,
-            Err(RunFault::Undefined) => return Ok(None),
-            Err(RunFault::NoMemory) => return Err(NoMemory),
-        };
-        text.push_str(ran.out.as_str())?;
+    let count = cells.as_slice().len();
+    let program = Program { cells };
+    let mut machine = Machine::new(alloc);
+    for place in 0..count {
+        let node = NodeId(place as u32 + 1);
+        let ran = run_cell(alloc, &mut machine, &program, node, inputs, MOST_STEPS)?;
+        text.push_text(&ran.out)?;
         match ran.end {
             End::Done => {}
-            End::Failed(failure, line) => {
-                let failed = failed_text(alloc, place + 1, failure, line)?;
-                text.push_str(failed.as_str())?;
-                return Ok(Some(text));
+            End::Failed { failure, line } => {
+                return add_failed(alloc, place + 1, failure, line, text);
             }
         }
     }
-    Ok(Some(text))
+    Ok(())
 }
 
-fn failed_text(alloc: Global, cell: usize, failure: Failure, line: u32) -> Result<String, NoMemory>
-    ensures { IfOk result (λ text. string_bytes text ≡ spec.failed_text cell failure line) }
+/// Adds the line of a failed cell.
+fn add_failed(
+    alloc: Global,
+    cell: usize,
+    failure: Failure,
+    line: u32,
+    text: &mut Text,
+) -> Result<(), NoMemory>
+    ensures { OnOk result (text.new ≡ text.old ++ meaning.end_text cell (End.Failed failure line)) }
 {
-    let name = failure_name(failure);
-    Ok(format!(in alloc; "error: {name} at cell {cell} line {line}\n")?)
+    text.push_str("error: ")?;
+    text.push_str(failure_name(failure))?;
+    text.push_str(" at cell ")?;
+    text.push_text(&Text::from_int(alloc, cell as i128)?)?;
+    text.push_str(" line ")?;
+    text.push_text(&Text::from_int(alloc, line as i128)?)?;
+    text.push_str("\n")?;
+    Ok(())
 }
 
 /// How a failure is named.
-#[tactic(auto, unfolding(crate::specs::Texts::failure_name))]
 fn failure_name(failure: Failure) -> &'static str
-    ensures { result.now ≡ spec.failure_name failure }
+    ensures { chars result.now ≡ meaning.failure_name failure }
 {
     match failure {
         Failure::NoMethod => "NoMethod",

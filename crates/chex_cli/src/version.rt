@@ -48,11 +48,12 @@ impl Versions {
         Ok(())
     }
 
-    /// The versions, in order.
-    pub fn as_slice(&self) -> &[Version]
-        ensures { result.now ≡ self.now }
+    /// The versions, in order. It takes no memory.
+    pub fn into_vec(self) -> Vec<Version>
+        ensures { result.items ≡ self }
     {
-        self.items.as_slice()
+        let Versions { items } = self;
+        items
     }
 }
 

@@ -1,16 +1,14 @@
 //! Rows over files and sinks in memory.
+mod language;
+
 use super::*;
 use chex_base::{Calls, Files, MemoryLibrary, MemorySink, Text};
-use star_eval::{End, Failure, Globals, run_cell};
-use star_lexer::lex;
-use star_parser::parse;
-use star_syntax::Module;
 use std::process::Abort;
 use std::test::Fail;
 
 /// A notebook as Jupyter writes one, on one line.
 const SALES: &str =
-    r##"{"cells":[{"cell_type":"markdown","id":"a1","metadata":{},"source":["# Sales\n"]},{"cell_type":"code","execution_count":1,"id":"b2","metadata":{"w":0.5},"outputs":[{"name":"stdout","output_type":"stream","text":["old\n"]}],"source":["sales = 8\n","sales = sales + 0\n","print(sales)"]}],"metadata":{"kernelspec":{"display_name":"Starlark","language":"starlark","name":"starlark"}},"nbformat":4,"nbformat_minor":5}"##;
+    r##"{"cells":[{"cell_type":"markdown","id":"a1","metadata":{},"source":["# Sales\n"]},{"cell_type":"code","execution_count":1,"id":"b2","metadata":{"w":0.5},"outputs":[{"name":"stdout","output_type":"stream","text":["old\n"]}],"source":["sales = {\"north\": 3, \"south\": 5}\n","total = 0\n","for k in sales:\n","    total += sales[k]\n","total"]}],"metadata":{"kernelspec":{"display_name":"Starlark","language":"starlark","name":"starlark"}},"nbformat":4,"nbformat_minor":5}"##;
 
 /// A notebook with these code cells, whose sources are given as JSON writes them.
 fn notebook(alloc: Global, sources: &[&str]) -> Result<String, Fail> {
@@ -111,53 +109,8 @@ fn solo_ends(rt: &impl Abort, alloc: Global, sources: &[&str], wanted: Wanted) -
     ends(rt, alloc, "solo a.ipynb", &files, (0, 0), wanted)
 }
 
-/// Notebooks by the sources of their code cells, with the status and what is written.
-const NOTEBOOKS: [(&[&str], Status, &str); 9] = [
-    (&[], Status::Done, ""),
-    (&["print(1 + 2)"], Status::Done, "3\n"),
-    (
-        &["x = 2\\nprint(x + x)\\nprint(y)"],
-        Status::Done,
-        "4\nerror: Unbound at cell 1 line 3\n",
-    ),
-    (
-        &["x = 2", "", "y = x + x\\nprint(y)", "print(x)"],
-        Status::Done,
-        "4\n2\n",
-    ),
-    (
-        &["x = 1", "print(x)\\n\\nprint(z)", "print(7)"],
-        Status::Done,
-        "1\nerror: Unbound at cell 2 line 3\n",
-    ),
-    (
-        &["x = 170141183460469231731687303715884105727\\nprint(x)\\nprint(x + 1)"],
-        Status::Done,
-        "170141183460469231731687303715884105727\nerror: IntegerTooLarge at cell 1 line 3\n",
-    ),
-    (
-        &["print(1) # c\\n\\nprint(0x10)\\r\\n"],
-        Status::Done,
-        "1\n16\n",
-    ),
-    (
-        &["print(1)", "x = [1]"],
-        Status::NotBuilt,
-        "error: not built\n",
-    ),
-    (&["x = 1 // 0"], Status::NotBuilt, "error: not built\n"),
-];
-
-#[test]
-fn notebooks_print_their_text(rt: HostRuntime) -> Result<(), Fail> {
-    for (sources, status, written) in &NOTEBOOKS {
-        solo_ends(&rt, rt.alloc(), sources, (*status, written))?;
-    }
-    Ok(())
-}
-
 /// The files that versions are made of.
-const VERSION_FILES: [(&str, &str); 16] = [
+const VERSION_FILES: [(&str, &str); 18] = [
     (
         "p.ipynb",
         r#"{"cells":[{"cell_type":"code","source":"print(1 + 2)"}],"nbformat":4}"#,
@@ -210,10 +163,18 @@ const VERSION_FILES: [(&str, &str); 16] = [
         "twice",
         r#"{"versions":[{"name":"p","notebook":"p.ipynb"},{"name":"p","notebook":"old.ipynb"}]}"#,
     ),
+    (
+        "a.ipynb",
+        r#"{"cells":[{"cell_type":"code","source":"x = input('n')"},{"cell_type":"code","source":"print(x)\nx[1] = input('m')\nx"}],"nbformat":4}"#,
+    ),
+    (
+        "asks",
+        r#"{"versions":[{"name":"a","notebook":"a.ipynb","inputs":"i.json"},{"name":"b","notebook":"a.ipynb"}]}"#,
+    ),
 ];
 
 /// Calls over them, with the read that fails, the status and what is written.
-const VERSIONS: [(&str, u64, Status, &str); 15] = [
+const VERSIONS: [(&str, u64, Status, &str); 16] = [
     ("alone both", 0, Status::Done, "== p ==\n3\n== q ==\n2\n"),
     ("alone none", 0, Status::Done, ""),
     (
@@ -222,7 +183,14 @@ const VERSIONS: [(&str, u64, Status, &str); 15] = [
         Status::Done,
         "== f ==\nerror: Unbound at cell 1 line 1\n== q ==\n2\n== s ==\n8\n",
     ),
-    ("alone display", 0, Status::NotBuilt, "error: not built\n"),
+    ("alone display", 0, Status::Done, "== d ==\n== q ==\n2\n"),
+    // Each version has its own inputs.
+    (
+        "alone asks",
+        0,
+        Status::Done,
+        "== a ==\n[1, True, None, \"a\"]\n[1, 18446744073709551615, None, \"a\"]\n== b ==\nerror: NoInput at cell 1 line 1\n",
+    ),
     (
         "alone later",
         0,
@@ -304,7 +272,7 @@ fn versions_print_their_texts(rt: HostRuntime) -> Result<(), Fail> {
 }
 
 /// Notebooks by the sources of their code cells, and what is written of the first that is refused.
-const REFUSED_CELLS: [(&[&str], &str); 10] = [
+const REFUSED_CELLS: [(&[&str], &str); 16] = [
     (&["a < b < c"], "error: solo cell 1 line 1: Unexpected\n"),
     (&["x = 1.5"], "error: solo cell 1 line 1: Unexpected\n"),
     (
@@ -329,7 +297,19 @@ const REFUSED_CELLS: [(&[&str], &str); 10] = [
         &["print(1", "y = 1"],
         "error: solo cell 1 line 1: Unexpected\n",
     ),
-    // A cell that does not run yet is passed over for the first that is refused.
+    (&["break"], "error: solo cell 1 line 1: MisplacedBreak\n"),
+    (
+        &["x = 1\\ndef f(a, a):\\n    pass"],
+        "error: solo cell 1 line 2: RepeatedParameter\n",
+    ),
+    (&["x = $"], "error: solo cell 1 line 1: BadCharacter\n"),
+    (&["x = 01"], "error: solo cell 1 line 1: BadNumber\n"),
+    (&["import x"], "error: solo cell 1 line 1: ReservedWord\n"),
+    (
+        &["\\n((((((((((((((((((((((((((((((((("],
+        "error: solo cell 1 line 2: TooNested\n",
+    ),
+    // The first cell that is refused, after one that is accepted.
     (
         &["x = 1", "x = [1]\\nreturn x", "a < b < c"],
         "error: solo cell 2 line 2: MisplacedReturn\n",
@@ -734,55 +714,4 @@ fn inputs_are_limited(rt: HostRuntime) -> Result<(), Fail> {
     let files = (cells.as_str(), inputs.as_str());
     let wanted = (Status::TooMany, "error: i: too many inputs: 257\n");
     limited(&rt, rt.alloc(), "alone w", files, wanted)
-}
-
-/// The tree of a source.
-fn tree_of(rt: &impl Abort, alloc: Global, source: &str) -> Result<Module, Fail> {
-    assert!(rt; source.len() <= 65_536);
-    let tokens = match lex(alloc, source) {
-        Ok(tokens) => tokens,
-        Err(_) => return Err(Fail::from("no tokens")),
-    };
-    match parse(alloc, tokens.as_slice()) {
-        Ok(module) => Ok(module),
-        Err(_) => Err(Fail::from("no tree")),
-    }
-}
-
-/// Sources with the steps that they may take, how their cells end, what they write and the steps
-/// that they take.
-const STEPS: [(&str, u64, End, &str, u64); 6] = [
-    // The cell 1, the statement 1, the name 1, the numbers 2, the sum 1, the call 1, the code points 2.
-    ("print(1 + 2)", 1_000_000, End::Done, "3\n", 9),
-    ("print(1 + 2)", 9, End::Done, "3\n", 9),
-    ("print(1 + 2)", 8, End::Failed(Failure::StepLimit, 1), "", 8),
-    ("print(1 + 2)", 1, End::Failed(Failure::StepLimit, 1), "", 1),
-    // The cell 1, the statement 1, the number 1; the statement 1, the name 1.
-    (
-        "x = 1\nx = y",
-        1_000_000,
-        End::Failed(Failure::Unbound, 2),
-        "",
-        5,
-    ),
-    ("", 1_000_000, End::Done, "", 1),
-];
-
-#[test]
-fn steps_are_counted(rt: HostRuntime) -> Result<(), Fail> {
-    let alloc = rt.alloc();
-    for (source, allowance, end, out, steps) in &STEPS {
-        assert!(rt; *allowance >= 1);
-        let module = tree_of(&rt, alloc, source)?;
-        let mut globals = Globals::new(alloc);
-        match run_cell(alloc, &mut globals, &module, *allowance) {
-            Ok(ran) => {
-                assert_eq!(rt; ran.end, *end, "{source}");
-                assert_eq!(rt; ran.out.as_str(), *out, "{source}");
-                assert_eq!(rt; ran.steps, *steps, "{source}");
-            }
-            Err(_) => assert!(rt; false, "{source}"),
-        }
-    }
-    Ok(())
 }

@@ -1,7 +1,7 @@
 use Rattle.std.proofs.Common.{Some, map, string_bytes, refl, inl, inr}
+use Rattle.std.specs.Str.{encode_utf8_all}
 use Rattle.chex_base.specs.declared.status.Status.TheVariants as ended
-use Rattle.chex_cli.proofs.EndLemmas.{due_no_memory, due_write_fault, all_some, view_refused, view_bad_cell, view_not_built, view_done}
-use Rattle.chex_cli.proofs.OnceLemmas.{view_once}
+use Rattle.chex_cli.proofs.EndLemmas.{due_no_memory, due_write_fault, all_some, view_refused, view_done, view_once}
 use Rattle.chex_cli.proofs.chex.chex.Goals as goal
 
 pub returns-in-Err-clause-wrote : goal.returns-in-Err-clause-wrote
@@ -15,52 +15,38 @@ pub returns-in-Err-clause-usage : goal.returns-in-Err-clause-usage
 returns-in-Err-clause-usage g c = λ none. inr (inl refl)
 
 pub returns-in-Err-clause-refused : goal.returns-in-Err-clause-refused
-returns-in-Err-clause-refused g c = all_some (g.L.Library.files c.args.library.now) _ (λ file r h. inr (inl refl))
-
-pub returns-in-Err-clause-not_built : goal.returns-in-Err-clause-not_built
-returns-in-Err-clause-not_built g c = all_some (g.L.Library.files c.args.library.now) _ (λ file job runs h are not_thin. inr (inl refl))
-
-pub returns-in-Err-clause-bad_cell : goal.returns-in-Err-clause-bad_cell
-returns-in-Err-clause-bad_cell g c = all_some (g.L.Library.files c.args.library.now) _ (λ file job bad h first. inr (inl refl))
+returns-in-Err-clause-refused g c = all_some (g.L.Library.files c.args.library.now) _ (λ file why called sure. inr (inl refl))
 
 pub returns-in-Err-clause-done : goal.returns-in-Err-clause-done
-returns-in-Err-clause-done g c = all_some (g.L.Library.files c.args.library.now) _ (λ file job runs h are thin. inr (inl refl))
+returns-in-Err-clause-done g c = all_some (g.L.Library.files c.args.library.now) _ (λ file text called. inr (inl refl))
 
 pub returns-in-Ok-write-clause-wrote : goal.returns-in-Ok-write-clause-wrote
 returns-in-Ok-write-clause-wrote g c =
-    inr (inr (string_bytes c.in-Ok.decision.text, c.in-Ok.ensures.due, rw (← c.as_bytes.ensures.value) c.in-Ok-write.ensures.held))
+    inr (inr (encode_utf8_all c.in-Ok.decision.text, c.in-Ok.ensures.due, rw (← c.as_str.ensures.bytes, ← c.as_bytes.ensures.value) c.in-Ok-write.ensures.held))
 
 pub returns-in-Ok-write-clause-exact : goal.returns-in-Ok-write-clause-exact
 returns-in-Ok-write-clause-exact g c =
-    view_once (g.L.Library.files c.args.library.now) (map string_bytes c.args.words.now) c.in-Ok.decision.status (string_bytes c.in-Ok.decision.text) _ _ c.in-Ok.ensures.due
-    (rw (← c.as_bytes.ensures.value) c.in-Ok-write.ensures.held)
+    view_once (g.L.Library.files c.args.library.now) (map string_bytes c.args.words.now) c.in-Ok.decision.status (encode_utf8_all c.in-Ok.decision.text) _ _ c.in-Ok.ensures.due
+    (rw (← c.as_str.ensures.bytes, ← c.as_bytes.ensures.value) c.in-Ok-write.ensures.held)
 
 pub returns-in-Ok-write-clause-write : goal.returns-in-Ok-write-clause-write
 returns-in-Ok-write-clause-write g c = λ h.
-    absurd (due_write_fault (g.L.Library.files c.args.library.now) (map string_bytes c.args.words.now) c.in-Ok.decision.status (string_bytes c.in-Ok.decision.text) c.in-Ok.ensures.due h)
+    absurd (due_write_fault (g.L.Library.files c.args.library.now) (map string_bytes c.args.words.now) c.in-Ok.decision.status (encode_utf8_all c.in-Ok.decision.text) c.in-Ok.ensures.due h)
 
 pub returns-in-Ok-write-clause-usage : goal.returns-in-Ok-write-clause-usage
 returns-in-Ok-write-clause-usage g c = λ none. inl (c.in-Ok.ensures.usage none)
 
 pub returns-in-Ok-write-clause-refused : goal.returns-in-Ok-write-clause-refused
 returns-in-Ok-write-clause-refused g c =
-    view_refused (g.L.Library.files c.args.library.now) (map string_bytes c.args.words.now) c.in-Ok.decision.status (string_bytes c.in-Ok.decision.text) c.in-Ok.ensures.due
-
-pub returns-in-Ok-write-clause-bad_cell : goal.returns-in-Ok-write-clause-bad_cell
-returns-in-Ok-write-clause-bad_cell g c =
-    view_bad_cell (g.L.Library.files c.args.library.now) (map string_bytes c.args.words.now) c.in-Ok.decision.status (string_bytes c.in-Ok.decision.text) c.in-Ok.ensures.due
-
-pub returns-in-Ok-write-clause-not_built : goal.returns-in-Ok-write-clause-not_built
-returns-in-Ok-write-clause-not_built g c =
-    view_not_built (g.L.Library.files c.args.library.now) (map string_bytes c.args.words.now) c.in-Ok.decision.status (string_bytes c.in-Ok.decision.text) c.in-Ok.ensures.due
+    view_refused (g.L.Library.files c.args.library.now) (map string_bytes c.args.words.now) c.in-Ok.decision.status (encode_utf8_all c.in-Ok.decision.text) c.in-Ok.ensures.due
 
 pub returns-in-Ok-write-clause-done : goal.returns-in-Ok-write-clause-done
 returns-in-Ok-write-clause-done g c =
-    view_done (g.L.Library.files c.args.library.now) (map string_bytes c.args.words.now) c.in-Ok.decision.status (string_bytes c.in-Ok.decision.text) c.in-Ok.ensures.due
+    view_done (g.L.Library.files c.args.library.now) (map string_bytes c.args.words.now) c.in-Ok.decision.status (encode_utf8_all c.in-Ok.decision.text) c.in-Ok.ensures.due
 
 pub returns-clause-wrote : goal.returns-clause-wrote
 returns-clause-wrote g c =
-    inr (inl (refl, c.in-Ok.decision.status, string_bytes c.in-Ok.decision.text, c.in-Ok.ensures.due, rw (← c.as_bytes.ensures.value) c.in-Err-write.ensures.held))
+    inr (inl (refl, c.in-Ok.decision.status, encode_utf8_all c.in-Ok.decision.text, c.in-Ok.ensures.due, rw (← c.as_str.ensures.bytes, ← c.as_bytes.ensures.value) c.in-Err-write.ensures.held))
 
 pub returns-clause-exact : goal.returns-clause-exact
 returns-clause-exact g c =

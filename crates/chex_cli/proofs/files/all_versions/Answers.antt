@@ -2,7 +2,7 @@ use Rattle.std.proofs.Common.{arith, ◌∙◌, refl}
 use Rattle.std.proofs.lemmas.Result.{err_from_is_err_and}
 use Rattle.chex_cli.specs.Files.{versions_at}
 use Rattle.chex_cli.proofs.ReadLemmas.{onward_first, onward_more, onward_refused, onward_last, handed_on}
-use Rattle.chex_cli.proofs.CellLemmas.{one_more_short}
+use Rattle.chex_cli.proofs.CellLemmas.{one_more_small}
 use Rattle.chex_cli.proofs.files.all_versions.Goals as goal
 
 pub loop-entry-init : goal.loop-entry-init
@@ -29,7 +29,7 @@ loop-entry-preserved g c = record {
   files = c.in_ok-version.ensures.files ∙ c.loop-entry.invariant.files;
   absences = omega (arith, c.in_ok-version.ensures.later.0, c.loop-entry.invariant.absences);
   faults = omega (arith, c.in_ok-version.ensures.later.1, c.loop-entry.invariant.faults);
-  short = rw c.in_ok-add.ensures.ok (one_more_short c.loop-entry.versions c.in_ok-version.version c.loop-entry.invariant.short c.in_ok-version.ensures.short);
+  short = rw c.in_ok-add.ensures.ok (one_more_small c.loop-entry.versions c.in_ok-version.version c.loop-entry.invariant.short c.in_ok-version.ensures.short);
 }
 
 pub returns-clause-read : goal.returns-clause-read

@@ -3,7 +3,7 @@ use Rattle.std.specs.Prelude.{IfSome, Result}
 use Rattle.chex_cli.specs.declared.version.Version.{Version}
 use Rattle.chex_cli.specs.declared.refusal.Refusal.{Refusal}
 use Rattle.chex_cli.specs.Files.{versions_at}
-use Rattle.chex_cli.specs.Jobs.{AreAllShort}
+use Rattle.chex_cli.specs.Jobs.{AreSmall}
 use Rattle.chex_cli.specs.Reads.{Answers}
 use Rattle.chex_cli.proofs.ReadLemmas.{prepend}
 use Rattle.chex_cli.proofs.files.all_versions.Given as goal
@@ -17,5 +17,5 @@ invariant-loop-entry g l =
       files : library.files l.library ≡ library.files l.fn.library;
       absences : library.absences l.fn.library ≤ library.absences l.library;
       faults : library.faults l.fn.library ≤ library.faults l.library;
-      short : AreAllShort l.versions;
+      short : AreSmall l.versions;
     }

@@ -1,18 +1,31 @@
-use Rattle.std.proofs.Common.{arith, ◌∙◌, ap, sym, string_bytes}
-use Rattle.std.specs.Prelude.{option_map}
-use Rattle.chex_cli.proofs.TextLemmas.{job_undefined, job_more, job_last}
+use Rattle.std.proofs.Common.{rules, ◌≡◌, ◌≤◌, ◌++◌, ◌∷◌, [], ◌∙◌, length, arith, ap, refl, append_assoc}
+use Rattle.std.specs.List.{AllByRecursion}
+use Rattle.std.specs.Vec.Iter.{into_iter_items}
+use Rattle.chex_cli.specs.Ends.{most_steps}
+use Rattle.chex_cli.specs.Texts.{version_text}
+use Rattle.chex_cli.proofs.TextLemmas.{job_first, job_more}
 use Rattle.chex_cli.proofs.running.job_text.Goals as goal
 
-pub returns-in-None : goal.returns-in-None
-returns-in-None c =
-    job_undefined (string_bytes c.loop-run.text) c.loop-run.run-index c.args.headed c.args.runs.now c.run-item.result c.loop-run-test.true c.run-item.is c.loop-run.invariant
-    (ap (option_map string_bytes) (sym c.in-None.is) ∙ c.in_ok-run_text.ensures)
+pub loop-version-init : goal.loop-version-init
+loop-version-init c = record {
+  text = rw c.new-text.ensures (job_first c.args.headed most_steps);
+  whole = refl;
+  few = rw c.into_iter-version-iterator.ensures.into_iter_gives.0 c.requires;
+  left = search rules;
+}
 
-pub loop-run-preserved : goal.loop-run-preserved
-loop-run-preserved c =
-    rw (c.in_ok-push_str-in-Some.ensures.bytes, c.as_str.ensures.value)
-    (job_more (string_bytes c.loop-run.text) c.loop-run.run-index c.args.headed c.args.runs.now c.run-item.result c.loop-run-test.true c.run-item.is c.loop-run.invariant
-    (string_bytes c.in-Some.more) (ap (option_map string_bytes) (sym c.in-Some.is) ∙ c.in_ok-run_text.ensures))
-
-pub returns : goal.returns
-returns c = job_last (string_bytes c.loop-run.text) c.loop-run.run-index c.args.headed c.args.runs.now (omega arith) c.loop-run.invariant
+pub loop-version-preserved : goal.loop-version-preserved
+loop-version-preserved c =
+    let at = c.loop-version in
+    let x = c.in-Some.version in
+    let steps : into_iter_items at.version-iterator ≡ x ∷ into_iter_items c.next.new.self = c.in-Some.ensures.steps.0 in
+    record {
+      text = c.in_ok-add_version.ensures ∙ ap (λ t. t ++ version_text c.args.headed most_steps x) at.invariant.text ∙ job_more c.args.headed most_steps at.yielded x;
+      whole = append_assoc at.yielded (x ∷ []) _ ∙ rw (← steps) at.invariant.whole;
+      few = (rw steps at at.invariant.few).1;
+      left =
+          let was = at.invariant.left in
+          let gone = c.in-Some.ensures.steps.1 in
+          let short = ap length steps in
+          omega arith;
+    }

@@ -1,5 +1,0 @@
-pub mod Integers
-pub mod Cases
-pub mod Literals
-pub mod GlobalsLemmas
-pub mod ThinRuns
