@@ -20,7 +20,7 @@ use Rattle.chex_cli.specs.declared.cell.Reason.{Reason}
 use Rattle.chex_cli.specs.declared.cell.Reason.TheVariants as reason
 use Rattle.chex_cli.specs.declared.version.Version.{Version}
 use Rattle.chex_cli.specs.declared.bad_cell.BadCell.{BadCell}
-use Rattle.chex_cli.specs.declared.checking.Checked.{Checked}
+use Rattle.exec_tree.specs.declared.checked.Checked.{Checked}
 use Rattle.chex_cli.specs.Cells.{IsCellOf, IsWrong, IsUnexpectedAt}
 use Rattle.chex_cli.specs.Jobs.{IsChecked, AreChecked, IsBadIn, IsFirstBad, IsSmall, AreSmall}
 use Rattle.chex_cli.proofs.FirstLemmas.{first_apart}

@@ -18,7 +18,7 @@ use Rattle.star_meaning.specs.declared.ran.Ran.{Ran}
 use Rattle.star_meaning.specs.Cells.{Shown, cell_text, end_text, if_done, ran, runs, runs_from, text, texts_from}
 use Rattle.star_meaning.specs.Validity.{IsValid, MachineState, after, cell_of, cell_or_none, no_cell, nothing_ran, ran_at, shown}
 use Rattle.star_meaning.proofs.RenamedCells.{after_shows}
-use Rattle.chex_cli.specs.declared.checking.Checked.{Checked}
+use Rattle.exec_tree.specs.declared.checked.Checked.{Checked}
 use Rattle.chex_cli.specs.Texts.{job_text, version_text}
 
 -- what was written so far, before what the cells from this place on write, is what all write
