@@ -1,9 +1,5 @@
 -- The words and the files call for one answer at most, beside a failed read and want of memory.
-use Rattle.std.proofs.Common.{◌≡◌, ◌≢◌, inl, inr, ◌+◌, ℕ, Bool, List, [], ◌∷◌, ◌++◌, Option, Some, None, Result, Ok, Err, sym, ◌∙◌, ap, subst, refl}
-use Rattle.std.specs.Prelude.{IfSome}
-use Rattle.chex_base.specs.Outside.{GrewBy}
-use Rattle.chex_base.specs.declared.status.Status.{Status}
-use Rattle.chex_base.specs.declared.status.Status.TheVariants as ended
+use Rattle.std.proofs.Common.{◌≡◌, inl, inr, ℕ, List, Result, Ok, Err, sym, ◌∙◌, ap, subst, refl}
 use Rattle.chex_cli.specs.declared.cell.Reason.{Reason}
 use Rattle.chex_cli.specs.declared.bad_cell.BadCell.{BadCell}
 use Rattle.chex_cli.specs.declared.refusal.Refusal.{Refusal}
@@ -12,15 +8,14 @@ use Rattle.chex_cli.specs.declared.refusal.Refusal.TheVariants as refusal
 use Rattle.chex_cli.specs.declared.version.Job.{Job}
 use Rattle.chex_cli.specs.declared.version.Version.{Version}
 use Rattle.exec_tree.specs.declared.checked.Checked.{Checked}
-use Rattle.chex_cli.specs.Refusals.{status_of, line_of}
-use Rattle.chex_cli.specs.Reads.{FileView, Read, Answers, Refuses}
+use Rattle.chex_cli.specs.Reads.{FileView, Read, Answers}
 use Rattle.chex_cli.specs.Files.{job_at}
 use Rattle.chex_cli.specs.Stages.{Stage, pure, of, ◌>>=◌, IsCertain, IsSingle}
 use Rattle.chex_cli.specs.Cells.{IsCellOf, IsWrong}
-use Rattle.chex_cli.specs.Jobs.{IsChecked, AreChecked, IsBadIn, IsFirstBad, checked}
+use Rattle.chex_cli.specs.Jobs.{IsChecked, IsBadIn, IsFirstBad, checked}
 use Rattle.chex_cli.specs.Nodes.{nodes}
 use Rattle.chex_cli.specs.Texts.{job_text}
-use Rattle.chex_cli.specs.Ends.{IsDue, Ends, due, job_due, most_steps}
+use Rattle.chex_cli.specs.Ends.{due, job_due, most_steps}
 use Rattle.chex_cli.proofs.FirstLemmas.{first_once}
 use Rattle.chex_cli.proofs.CellLemmas.{cell_apart, version_apart, bad_apart, all_checked_once}
 use Rattle.chex_cli.proofs.WrongLemmas.{wrong_once}

@@ -1,5 +1,5 @@
 -- The first cell that is refused, as a loop over versions meets it.
-use Rattle.std.proofs.Common.{◌≡◌, ◌≤◌, ◌+◌, ℕ, suc, [], ◌∷◌, ◌++◌, List, length, Result, Ok, Err, IfErr, ap, refl}
+use Rattle.std.proofs.Common.{◌≡◌, ◌≤◌, ◌+◌, suc, [], ◌∷◌, ◌++◌, List, length, Result, Ok, Err, IfErr, ap, refl}
 use Rattle.std.specs.List.{AllByRecursion, AllZip}
 use Rattle.chex_cli.specs.declared.refusal.Refusal.{Refusal}
 use Rattle.chex_cli.specs.declared.refusal.Refusal.TheVariants as refusal

@@ -1,8 +1,7 @@
 -- The versions with their cells, and the first cell that is refused.
-use Rattle.std.specs.Prelude.{◌≡◌, ◌≤◌, ◌+◌, ℕ, List, ◌∷◌, ◌++◌, length, Result, Ok, Err}
+use Rattle.std.specs.Prelude.{◌≡◌, ◌≤◌, ◌+◌, ℕ, List, ◌∷◌, ◌++◌, length, Ok, Err}
 use Rattle.std.specs.List.{AllByRecursion, AllZip}
 use Rattle.nb_reader.specs.Notebook.{AreShort}
-use Rattle.star_syntax.specs.CellParts.{CellParts}
 use Rattle.chex_cli.specs.declared.cell.Reason.{Reason}
 use Rattle.chex_cli.specs.declared.version.Version.{Version}
 use Rattle.chex_cli.specs.declared.bad_cell.BadCell.{BadCell}

@@ -1,5 +1,5 @@
 -- The tree of the versions' equal beginnings, and how many nodes it may have.
-use Rattle.std.specs.Prelude.{◌≡◌, ◌<◌, ◌≤◌, List, length, Result, Ok, Err}
+use Rattle.std.specs.Prelude.{◌≡◌, ◌<◌, ◌≤◌, List, length, Ok, Err}
 use Rattle.exec_tree.specs.declared.checked.Checked.{Checked}
 use Rattle.exec_tree.specs.Prefixes.{prefixes}
 use Rattle.exec_tree.specs.Forests.{ForestParts, forest_of}
