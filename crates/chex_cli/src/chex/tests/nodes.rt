@@ -101,7 +101,9 @@ const ROWS: [Row; 7] = [
 fn add_notebook(alloc: Global, held: &mut Files, row: &Row, version: u32) -> Result<(), Fail> {
     let mut cells = String::new(alloc);
     for place in 0..row.cells {
-        let last = version + 1 == row.versions && place + 1 == row.cells && !row.last.is_empty();
+        let last = version.saturating_add(1) == row.versions
+            && place.saturating_add(1) == row.cells
+            && !row.last.is_empty();
         let source = if last {
             String::from_str(alloc, row.last)?
         } else if place < row.common {
