@@ -1,6 +1,6 @@
 -- A source gives a cell or is wrong, never both.
 use Rattle.std.proofs.Common.{◌≡◌, ◌+◌, ℕ, true, List, [], ◌∷◌, ◌++◌, drop, Some, sym, ◌∙◌, ap, subst, refl}
-use Rattle.std.specs.List.{AllZip, list_all, slice_get}
+use Rattle.std.specs.List.{AllZip, slice_get}
 use Rattle.std.specs.Str.{chars, encode_utf8_all, all_scalars}
 use Rattle.std.proofs.lemmas.Str.{chars-encodes}
 use Rattle.std.proofs.lemmas.List.{take-append-drop}
@@ -9,7 +9,6 @@ use Rattle.star_syntax.specs.declared.statement.Module.{Module}
 use Rattle.chex_base.specs.declared.input.Input.{Input}
 use Rattle.star_syntax.specs.CellParts.{CellParts}
 use Rattle.star_syntax.specs.Placement.{AreInputNames, breaches}
-use Rattle.nb_reader.specs.Notebook.{AreShort}
 use Rattle.star_lexer.specs.Tokens.{Tokens}
 use Rattle.star_lexer.proofs.Once.{one_list, never_both}
 use Rattle.star_parser.specs.Reading.{kinds}
@@ -20,7 +19,7 @@ use Rattle.chex_cli.specs.declared.cell.Reason.{Reason}
 use Rattle.chex_cli.specs.declared.cell.Reason.TheVariants as reason
 use Rattle.chex_cli.specs.declared.version.Version.{Version}
 use Rattle.chex_cli.specs.declared.bad_cell.BadCell.{BadCell}
-use Rattle.chex_cli.specs.declared.checking.Checked.{Checked}
+use Rattle.exec_tree.specs.declared.checked.Checked.{Checked}
 use Rattle.chex_cli.specs.Cells.{IsCellOf, IsWrong, IsUnexpectedAt}
 use Rattle.chex_cli.specs.Jobs.{IsChecked, AreChecked, IsBadIn, IsFirstBad, IsSmall, AreSmall}
 use Rattle.chex_cli.proofs.FirstLemmas.{first_apart}

@@ -8,15 +8,17 @@ use Rattle.chex_base.specs.declared.status.Status.TheVariants as ended
 use Rattle.nb_reader.specs.declared.fault.NbFault.{NbFault}
 use Rattle.nb_reader.specs.declared.fault.NbFault.TheVariants as broken
 use Rattle.chex_cli.specs.declared.refusal.Refusal.{Refusal}
-use Rattle.chex_cli.specs.declared.refusal.Refusal.TheVariants.{Usage, Absent, ReadFailed, BadFile, BadCell, NoMemory}
+use Rattle.chex_cli.specs.declared.refusal.Refusal.TheVariants.{Usage, Absent, ReadFailed, BadFile, BadCell, TooManyNodes, NoMemory}
 use Rattle.chex_cli.specs.declared.version.Job.{Job}
 use Rattle.chex_cli.specs.declared.version.Version.{Version}
-use Rattle.chex_cli.specs.declared.checking.Checked.{Checked}
+use Rattle.exec_tree.specs.declared.checked.Checked.{Checked}
+use Rattle.exec_tree.specs.Forests.{ForestParts}
 use Rattle.chex_cli.specs.Words.{command_of}
 use Rattle.chex_cli.specs.Refusals.{status_of, file_status}
 use Rattle.chex_cli.specs.Reads.{FileView, IsCounted, Refuses}
 use Rattle.chex_cli.specs.Files.{job_at}
 use Rattle.chex_cli.specs.Jobs.{AreChecked, IsCellRefusal, IsFirstBad}
+use Rattle.chex_cli.specs.Nodes.{IsNodesRefusal, nodes}
 use Rattle.chex_cli.specs.Stages.{IsCertain}
 use Rattle.chex_cli.specs.Texts.{job_text}
 use Rattle.chex_cli.specs.Ends.{IsDue, Ends, Yields, due, job_due, most_steps}
@@ -50,6 +52,7 @@ refusal_write_fault (Absent file) h = cc
 refusal_write_fault (ReadFailed file) h = cc
 refusal_write_fault (BadFile file fault) h = file_other fault ended.WriteFault h (λ k. cc) (λ k. cc)
 refusal_write_fault (BadCell bad) h = cc
+refusal_write_fault (TooManyNodes count) h = cc
 refusal_write_fault NoMemory h = cc
 
 refusal_no_memory : (r : Refusal) → r ≢ NoMemory → status_of r ≡ ended.NoMemory → ⊥
@@ -58,6 +61,7 @@ refusal_no_memory (Absent file) some h = cc
 refusal_no_memory (ReadFailed file) some h = cc
 refusal_no_memory (BadFile file fault) some h = file_other fault ended.NoMemory h (λ k. cc) (λ k. cc)
 refusal_no_memory (BadCell bad) some h = cc
+refusal_no_memory (TooManyNodes count) some h = cc
 refusal_no_memory NoMemory some h = some refl
 
 -- a failed write is never due
@@ -85,6 +89,7 @@ module _ (a0 a1 f0 f1 : ℕ) (words : List (List ℕ)) where
   absent_counted (ReadFailed file) h is = cc
   absent_counted (BadFile file fault) h is = absurd (file_other fault ended.Absent is (λ k. cc) (λ k. cc))
   absent_counted (BadCell bad) h is = cc
+  absent_counted (TooManyNodes count) h is = cc
   absent_counted NoMemory h is = cc
 
   pub read_counted : (r : Refusal) → ((r ≡ Usage) × (command_of words ≡ None)) ⊎ IsCounted r a0 a1 f0 f1 → status_of r ≡ ended.ReadFault → Rose f0 f1
@@ -94,6 +99,7 @@ module _ (a0 a1 f0 f1 : ℕ) (words : List (List ℕ)) where
   read_counted (ReadFailed file) (inr h) is = h
   read_counted (BadFile file fault) h is = absurd (file_other fault ended.ReadFault is (λ k. cc) (λ k. cc))
   read_counted (BadCell bad) h is = cc
+  read_counted (TooManyNodes count) h is = cc
   read_counted NoMemory h is = cc
 
   usage_worded : (r : Refusal) → ((r ≡ Usage) × (command_of words ≡ None)) ⊎ IsCounted r a0 a1 f0 f1 → r ≡ Usage → command_of words ≡ None
@@ -112,6 +118,7 @@ certain_or (Err (Absent name)) = inl (λ h. cc, λ file h. cc)
 certain_or (Err (ReadFailed name)) = inr (inr (name, refl))
 certain_or (Err (BadFile name fault)) = inl (λ h. cc, λ file h. cc)
 certain_or (Err (BadCell bad)) = inl (λ h. cc, λ file h. cc)
+certain_or (Err (TooManyNodes count)) = inl (λ h. cc, λ file h. cc)
 certain_or (Err NoMemory) = inr (inl refl)
 
 module _ (file : FileView) (words : List (List ℕ)) (status : Status) (text : List ℕ) (is : IsDue (Some file) words status text) where
@@ -186,15 +193,19 @@ unfolding due
 due_refused None words why read = tt
 due_refused (Some file) words why read = inr (why, read, refl)
 
--- what a job's cells give
-pub text_called : (job : Job) (versions : List Checked) (text : List ℕ) → AreChecked job.versions versions → text ≡ job_text job.headed most_steps versions → job_due job (Ok text)
-text_called job versions text all is = inl (versions, all, inl (ap Ok is))
+-- what a job's cells and their tree give
+pub text_called : (job : Job) (versions : List Checked) (tree : ForestParts) (text : List ℕ) → AreChecked job.versions versions → nodes versions (Ok tree)
+    → text ≡ job_text job.headed most_steps versions → job_due job (Ok text)
+text_called job versions tree text all few is = inl (versions, all, inl (tree, few, inl (ap Ok is)))
 
 pub refusal_called : (job : Job) (why : Refusal) → IsCellRefusal (IsFirstBad job.versions) why → job_due job (Err why)
 refusal_called job why h = inr (why, h, refl)
 
-pub no_memory_called : (job : Job) (versions : List Checked) → AreChecked job.versions versions → job_due job (Err NoMemory)
-no_memory_called job versions all = inl (versions, all, inr refl)
+pub nodes_called : (job : Job) (versions : List Checked) (why : Refusal) → AreChecked job.versions versions → IsNodesRefusal versions why → job_due job (Err why)
+nodes_called job versions why all h = inl (versions, all, inr (why, h, refl))
+
+pub no_memory_called : (job : Job) (versions : List Checked) (tree : ForestParts) → AreChecked job.versions versions → nodes versions (Ok tree) → job_due job (Err NoMemory)
+no_memory_called job versions tree all few = inl (versions, all, inl (tree, few, inr refl))
 
 -- a refusal of a cell comes with no count
 pub cell_counted : (versions : List Version) (why : Refusal) → IsCellRefusal (IsFirstBad versions) why → (a0 a1 f0 f1 : ℕ) → IsCounted why a0 a1 f0 f1
@@ -204,6 +215,17 @@ cell_counted versions Usage h a0 a1 f0 f1 = absurd h
 cell_counted versions (Absent file) h a0 a1 f0 f1 = absurd h
 cell_counted versions (ReadFailed file) h a0 a1 f0 f1 = absurd h
 cell_counted versions (BadFile file fault) h a0 a1 f0 f1 = absurd h
+cell_counted versions (TooManyNodes count) h a0 a1 f0 f1 = absurd h
+
+-- and so does one of nodes
+pub nodes_counted : (versions : List Checked) (why : Refusal) → IsNodesRefusal versions why → (a0 a1 f0 f1 : ℕ) → IsCounted why a0 a1 f0 f1
+nodes_counted versions (TooManyNodes count) h a0 a1 f0 f1 = tt
+nodes_counted versions NoMemory h a0 a1 f0 f1 = tt
+nodes_counted versions Usage h a0 a1 f0 f1 = absurd h
+nodes_counted versions (Absent file) h a0 a1 f0 f1 = absurd h
+nodes_counted versions (ReadFailed file) h a0 a1 f0 f1 = absurd h
+nodes_counted versions (BadFile file fault) h a0 a1 f0 f1 = absurd h
+nodes_counted versions (BadCell bad) h a0 a1 f0 f1 = absurd h
 
 -- ---- what is due with an answer
 

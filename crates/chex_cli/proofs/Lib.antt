@@ -7,5 +7,6 @@ pub mod CellLemmas
 pub mod WrongLemmas
 pub mod KnownLemmas
 pub mod TextLemmas
+pub mod NodeLemmas
 pub mod OnceLemmas
 pub mod EndLemmas

@@ -1,9 +1,5 @@
 -- The words and the files call for one answer at most, beside a failed read and want of memory.
-use Rattle.std.proofs.Common.{◌≡◌, ◌≢◌, inl, inr, ◌+◌, ℕ, Bool, List, [], ◌∷◌, ◌++◌, Option, Some, None, Result, Ok, Err, sym, ◌∙◌, ap, subst, refl}
-use Rattle.std.specs.Prelude.{IfSome}
-use Rattle.chex_base.specs.Outside.{GrewBy}
-use Rattle.chex_base.specs.declared.status.Status.{Status}
-use Rattle.chex_base.specs.declared.status.Status.TheVariants as ended
+use Rattle.std.proofs.Common.{◌≡◌, inl, inr, ℕ, List, Result, Ok, Err, sym, ◌∙◌, ap, subst, refl}
 use Rattle.chex_cli.specs.declared.cell.Reason.{Reason}
 use Rattle.chex_cli.specs.declared.bad_cell.BadCell.{BadCell}
 use Rattle.chex_cli.specs.declared.refusal.Refusal.{Refusal}
@@ -11,18 +7,19 @@ use Rattle.chex_cli.specs.declared.refusal.Refusal.TheVariants.{Usage, Absent, R
 use Rattle.chex_cli.specs.declared.refusal.Refusal.TheVariants as refusal
 use Rattle.chex_cli.specs.declared.version.Job.{Job}
 use Rattle.chex_cli.specs.declared.version.Version.{Version}
-use Rattle.chex_cli.specs.declared.checking.Checked.{Checked}
-use Rattle.chex_cli.specs.Refusals.{status_of, line_of}
-use Rattle.chex_cli.specs.Reads.{FileView, Read, Answers, Refuses}
+use Rattle.exec_tree.specs.declared.checked.Checked.{Checked}
+use Rattle.chex_cli.specs.Reads.{FileView, Read, Answers}
 use Rattle.chex_cli.specs.Files.{job_at}
 use Rattle.chex_cli.specs.Stages.{Stage, pure, of, ◌>>=◌, IsCertain, IsSingle}
 use Rattle.chex_cli.specs.Cells.{IsCellOf, IsWrong}
-use Rattle.chex_cli.specs.Jobs.{IsChecked, AreChecked, IsBadIn, IsFirstBad, checked}
+use Rattle.chex_cli.specs.Jobs.{IsChecked, IsBadIn, IsFirstBad, checked}
+use Rattle.chex_cli.specs.Nodes.{nodes}
 use Rattle.chex_cli.specs.Texts.{job_text}
-use Rattle.chex_cli.specs.Ends.{IsDue, Ends, due, job_due, most_steps}
+use Rattle.chex_cli.specs.Ends.{due, job_due, most_steps}
 use Rattle.chex_cli.proofs.FirstLemmas.{first_once}
 use Rattle.chex_cli.proofs.CellLemmas.{cell_apart, version_apart, bad_apart, all_checked_once}
 use Rattle.chex_cli.proofs.WrongLemmas.{wrong_once}
+use Rattle.chex_cli.proofs.NodeLemmas.{nodes_single}
 
 -- ---- the first cell that is refused
 
@@ -64,6 +61,7 @@ answer_is read (Err (Absent file)) h sure = h
 answer_is read (Err (ReadFailed file)) h sure = absurd (sure.1 file refl)
 answer_is read (Err (BadFile file fault)) h sure = h
 answer_is read (Err (refusal.BadCell bad)) h sure = h
+answer_is read (Err (refusal.TooManyNodes count)) h sure = h
 answer_is read (Err NoMemory) h sure = absurd (sure.0 refl)
 
 pub of_single : {A : Type 0} (read : Read A) → IsSingle (of read)
@@ -105,6 +103,7 @@ checked_single versions (Ok a) (Err Usage) h k sure certain = absurd k
 checked_single versions (Ok a) (Err (Absent file)) h k sure certain = absurd k
 checked_single versions (Ok a) (Err (ReadFailed file)) h k sure certain = absurd k
 checked_single versions (Ok a) (Err (BadFile file fault)) h k sure certain = absurd k
+checked_single versions (Ok a) (Err (refusal.TooManyNodes count)) h k sure certain = absurd k
 checked_single versions (Err (refusal.BadCell a)) (Ok all) h k sure certain = absurd (bad_apart versions all a k h)
 checked_single versions (Err (refusal.BadCell a)) (Err (refusal.BadCell b)) h k sure certain = ap (λ bad. Err (refusal.BadCell bad)) (first_bad_once versions a b h k)
 checked_single versions (Err (refusal.BadCell a)) (Err NoMemory) h k sure certain = absurd (certain.0 refl)
@@ -112,13 +111,18 @@ checked_single versions (Err (refusal.BadCell a)) (Err Usage) h k sure certain =
 checked_single versions (Err (refusal.BadCell a)) (Err (Absent file)) h k sure certain = absurd k
 checked_single versions (Err (refusal.BadCell a)) (Err (ReadFailed file)) h k sure certain = absurd k
 checked_single versions (Err (refusal.BadCell a)) (Err (BadFile file fault)) h k sure certain = absurd k
+checked_single versions (Err (refusal.BadCell a)) (Err (refusal.TooManyNodes count)) h k sure certain = absurd k
 checked_single versions (Err NoMemory) other h k sure certain = absurd (sure.0 refl)
 checked_single versions (Err Usage) other h k sure certain = absurd h
 checked_single versions (Err (Absent file)) other h k sure certain = absurd h
 checked_single versions (Err (ReadFailed file)) other h k sure certain = absurd h
 checked_single versions (Err (BadFile file fault)) other h k sure certain = absurd h
+checked_single versions (Err (refusal.TooManyNodes count)) other h k sure certain = absurd h
+
+text_single : (job : Job) (versions : List Checked) → IsSingle (nodes versions >>= (λ tree. pure (job_text job.headed most_steps versions)))
+text_single job versions = next_single (nodes versions) (λ tree. pure (job_text job.headed most_steps versions)) (nodes_single versions) (λ tree. pure_single (job_text job.headed most_steps versions))
 
 pub due_single : (file : FileView) (words : List (List ℕ)) → IsSingle (due file words)
 unfolding due
 due_single file words = next_single (of (job_at file words)) job_due (of_single (job_at file words))
-    (λ job. next_single (checked job.versions) (λ versions. pure (job_text job.headed most_steps versions)) (checked_single job.versions) (λ versions. pure_single (job_text job.headed most_steps versions)))
+    (λ job. next_single (checked job.versions) (λ versions. nodes versions >>= (λ tree. pure (job_text job.headed most_steps versions))) (checked_single job.versions) (text_single job))

@@ -10,7 +10,7 @@ use Rattle.nb_reader.specs.declared.fault.NbFault.TheVariants.{TooMany}
 use Rattle.nb_reader.specs.declared.fault.NbFault.TheVariants as broken
 use Rattle.nb_reader.specs.declared.fault.Counted.TheVariants as count
 use Rattle.chex_cli.specs.declared.refusal.Refusal.{Refusal}
-use Rattle.chex_cli.specs.declared.refusal.Refusal.TheVariants.{Usage, Absent, ReadFailed, BadFile, BadCell, NoMemory}
+use Rattle.chex_cli.specs.declared.refusal.Refusal.TheVariants.{Usage, Absent, ReadFailed, BadFile, BadCell, TooManyNodes, NoMemory}
 use Rattle.chex_base.specs.declared.input.Input.{Input}
 use Rattle.nb_reader.specs.declared.manifest.Entry.{Entry}
 use Rattle.chex_cli.specs.declared.version.Version.{Version}
@@ -27,6 +27,7 @@ grown looked q (Err Usage) h = h
 grown looked q (Err (Absent file)) h = h
 grown looked q (Err (BadFile file fault)) h = h
 grown looked q (Err (BadCell bad)) h = h
+grown looked q (Err (TooManyNodes count)) h = h
 
 pub answers_after : {A B : Type 0} (p : Read A) (f : A → Read B) (x : A) (result : Result B Refusal) → p.1 ≡ Ok x → Answers (f x) result → Answers (p >>= f) result
 answers_after p f x result is h =
@@ -40,6 +41,7 @@ stops looked o f Usage h = ap (λ o. (goes_on looked o f).1) h
 stops looked o f (Absent file) h = ap (λ o. (goes_on looked o f).1) h
 stops looked o f (BadFile file fault) h = ap (λ o. (goes_on looked o f).1) h
 stops looked o f (BadCell bad) h = ap (λ o. (goes_on looked o f).1) h
+stops looked o f (TooManyNodes count) h = ap (λ o. (goes_on looked o f).1) h
 
 pub answers_stop : {A B : Type 0} (p : Read A) (f : A → Read B) (r : Refusal) → Refuses p r → Refuses (p >>= f) r
 answers_stop p f r h = stops p.0 p.1 f r h
@@ -144,6 +146,7 @@ counted_later (ReadFailed file) a0 a1 a2 f0 f1 f2 a f h = omega arith
 counted_later Usage a0 a1 a2 f0 f1 f2 a f h = absurd h
 counted_later (BadFile file fault) a0 a1 a2 f0 f1 f2 a f h = tt
 counted_later (BadCell bad) a0 a1 a2 f0 f1 f2 a f h = tt
+counted_later (TooManyNodes count) a0 a1 a2 f0 f1 f2 a f h = tt
 counted_later NoMemory a0 a1 a2 f0 f1 f2 a f h = tt
 
 -- a version: its notebook is refused, its inputs are refused, and both are read

@@ -1,10 +1,10 @@
 -- The first cell that is refused, as a loop over versions meets it.
-use Rattle.std.proofs.Common.{◌≡◌, ◌≤◌, ◌+◌, ℕ, suc, [], ◌∷◌, ◌++◌, List, length, Result, Ok, Err, IfErr, ap, refl}
+use Rattle.std.proofs.Common.{◌≡◌, ◌≤◌, ◌+◌, suc, [], ◌∷◌, ◌++◌, List, length, Result, Ok, Err, IfErr, ap, refl}
 use Rattle.std.specs.List.{AllByRecursion, AllZip}
 use Rattle.chex_cli.specs.declared.refusal.Refusal.{Refusal}
 use Rattle.chex_cli.specs.declared.refusal.Refusal.TheVariants as refusal
 use Rattle.chex_cli.specs.declared.version.Version.{Version}
-use Rattle.chex_cli.specs.declared.checking.Checked.{Checked}
+use Rattle.exec_tree.specs.declared.checked.Checked.{Checked}
 use Rattle.chex_cli.specs.Cells.{IsCellOf}
 use Rattle.chex_cli.specs.Jobs.{AreChecked, AreSmall, IsChecked, IsBadIn, IsFirstBad, IsCellRefusal}
 
@@ -20,6 +20,7 @@ first_refused versions before after made version refusal.Usage whole fine wrong 
 first_refused versions before after made version (refusal.Absent file) whole fine wrong = absurd wrong
 first_refused versions before after made version (refusal.ReadFailed file) whole fine wrong = absurd wrong
 first_refused versions before after made version (refusal.BadFile file fault) whole fine wrong = absurd wrong
+first_refused versions before after made version (refusal.TooManyNodes count) whole fine wrong = absurd wrong
 
 -- ---- errors
 
@@ -34,7 +35,7 @@ if_err_then P Q (Err e) f h = f e h
 
 -- ---- how many cells there are
 
-zip_length : {A B : Type 0} (R : A → B → Type 0) (xs : List A) (ys : List B) → AllZip R xs ys → length ys ≡ length xs
+pub zip_length : {A B : Type 0} (R : A → B → Type 0) (xs : List A) (ys : List B) → AllZip R xs ys → length ys ≡ length xs
 zip_length R [] [] h = refl
 zip_length R [] (y ∷ ys) h = absurd h
 zip_length R (x ∷ xs) [] h = absurd h

@@ -1,7 +1,7 @@
 -- Texts of cells one after the other, and of versions one after the other.
 use Rattle.std.proofs.Common.{◌≡◌, ◌<◌, ◌≤◌, ◌+◌, ℕ, zero, suc, Bool, List, [], ◌∷◌, Some, ◌++◌, length, drop, get_or, sym, ◌∙◌, ap, subst, refl, arith, append_assoc, append-nil}
 use Rattle.std.specs.Prelude.{IsTrue, codes}
-use Rattle.std.specs.List.{flat_map, slice_get}
+use Rattle.std.specs.List.{slice_get}
 use Rattle.std.specs.List.Sorted.{IsStrictlySortedBy}
 use Rattle.std.specs.Option.{is_some}
 use Rattle.std.specs.Str.{chars}
@@ -18,7 +18,7 @@ use Rattle.star_meaning.specs.declared.ran.Ran.{Ran}
 use Rattle.star_meaning.specs.Cells.{Shown, cell_text, end_text, if_done, ran, runs, runs_from, text, texts_from}
 use Rattle.star_meaning.specs.Validity.{IsValid, MachineState, after, cell_of, cell_or_none, no_cell, nothing_ran, ran_at, shown}
 use Rattle.star_meaning.proofs.RenamedCells.{after_shows}
-use Rattle.chex_cli.specs.declared.checking.Checked.{Checked}
+use Rattle.exec_tree.specs.declared.checked.Checked.{Checked}
 use Rattle.chex_cli.specs.Texts.{job_text, version_text}
 
 -- what was written so far, before what the cells from this place on write, is what all write

@@ -1,12 +1,11 @@
 -- The versions with their cells, and the first cell that is refused.
-use Rattle.std.specs.Prelude.{◌≡◌, ◌≤◌, ◌+◌, ℕ, List, ◌∷◌, ◌++◌, length, Result, Ok, Err}
+use Rattle.std.specs.Prelude.{◌≡◌, ◌≤◌, ◌+◌, ℕ, List, ◌∷◌, ◌++◌, length, Ok, Err}
 use Rattle.std.specs.List.{AllByRecursion, AllZip}
 use Rattle.nb_reader.specs.Notebook.{AreShort}
-use Rattle.star_syntax.specs.CellParts.{CellParts}
 use Rattle.chex_cli.specs.declared.cell.Reason.{Reason}
 use Rattle.chex_cli.specs.declared.version.Version.{Version}
 use Rattle.chex_cli.specs.declared.bad_cell.BadCell.{BadCell}
-use Rattle.chex_cli.specs.declared.checking.Checked.{Checked}
+use Rattle.exec_tree.specs.declared.checked.Checked.{Checked}
 use Rattle.chex_cli.specs.declared.refusal.Refusal.{Refusal}
 use Rattle.chex_cli.specs.declared.refusal.Refusal.TheVariants as refusal
 use Rattle.chex_cli.specs.Stages.{Stage}
@@ -66,6 +65,7 @@ IsCellRefusal Holds refusal.Usage = ⊥
 IsCellRefusal Holds (refusal.Absent file) = ⊥
 IsCellRefusal Holds (refusal.ReadFailed file) = ⊥
 IsCellRefusal Holds (refusal.BadFile file fault) = ⊥
+IsCellRefusal Holds (refusal.TooManyNodes count) = ⊥
 
 -- all versions with their cells, or the first cell that is refused
 abbrev pub checked : List Version → Stage (List Checked)

@@ -6,6 +6,7 @@ pub mod Stages
 pub mod Cells
 pub mod BadCells
 pub mod Jobs
+pub mod Nodes
 pub mod Texts
 pub mod Ends
 pub mod Exits

@@ -34,6 +34,7 @@ status_of (Absent file) = status.Absent
 status_of (ReadFailed file) = status.ReadFault
 status_of (BadFile file fault) = file_status fault
 status_of (refusal.BadCell bad) = status.BadCell
+status_of (refusal.TooManyNodes count) = status.TooMany
 status_of refusal.NoMemory = status.NoMemory
 
 -- what was counted, in words
@@ -80,6 +81,9 @@ failed_line file = codes "error: reading " ++ file ++ codes " failed\n"
 abbrev pub bad_line : List ℕ → List ℕ → List ℕ
 bad_line file why = codes "error: " ++ file ++ codes ": " ++ why ++ codes "\n"
 
+abbrev pub nodes_line : ℕ → List ℕ
+nodes_line count = codes "error: too many nodes: " ++ decimal count ++ codes "\n"
+
 -- the one line that is written for a refusal; nothing is written where memory was wanting
 unfoldable pub line_of : Refusal → List ℕ
 line_of Usage = codes "error: usage\n"
@@ -87,4 +91,5 @@ line_of (Absent file) = absent_line (encode_utf8_all file)
 line_of (ReadFailed file) = failed_line (encode_utf8_all file)
 line_of (BadFile file fault) = bad_line (encode_utf8_all file) (reason fault)
 line_of (refusal.BadCell bad) = cells.line_of bad
+line_of (refusal.TooManyNodes count) = nodes_line count
 line_of refusal.NoMemory = []

@@ -1,6 +1,6 @@
 -- What the words and the files call for, one stage after the other: each stage gives something or refuses, and the next one goes on
 -- from what it gave. A stage is stated as all that it may answer; want of memory is always among it.
-use Rattle.std.specs.Prelude.{◌≡◌, ◌≢◌, ◌⊎◌, List, Result, Ok, Err}
+use Rattle.std.specs.Prelude.{◌≡◌, ◌≢◌, ◌⊎◌, Result, Ok, Err}
 use Rattle.chex_cli.specs.declared.refusal.Refusal.{Refusal}
 use Rattle.chex_cli.specs.declared.refusal.Refusal.TheVariants.{ReadFailed, NoMemory}
 use Rattle.chex_cli.specs.Reads.{Read, Answers}

@@ -3,7 +3,7 @@ use Rattle.std.specs.Prelude.{ℕ, Bool, true, false, List, [], ◌++◌}
 use Rattle.std.specs.List.{flat_map}
 use Rattle.star_meaning.specs.Cells.{text}
 use Rattle.chex_report.specs.Headers.{header_of}
-use Rattle.chex_cli.specs.declared.checking.Checked.{Checked}
+use Rattle.exec_tree.specs.declared.checked.Checked.{Checked}
 
 -- the line before a version's text, where versions have one
 abbrev pub header_if : Bool → List ℕ → List ℕ

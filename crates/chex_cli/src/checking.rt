@@ -7,17 +7,9 @@ use crate::cell::CellFault;
 use crate::known::Known;
 use crate::refusal::Refusal;
 use crate::version::{Version, Versions};
-use chex_base::{Inputs, Text};
+use exec_tree::Checked;
 use star_syntax::Cells;
 use std::alloc::Global;
-
-/// A version whose cells are accepted: its name, its cells in order, and its inputs.
-#[derive(Drop)]
-pub struct Checked {
-    pub name: Text,
-    pub cells: Cells,
-    pub inputs: Inputs,
-}
 
 /// The versions with their cells, or the first cell that is refused: that of the first version with
 /// one, and the first there. Equal sources are looked at once.

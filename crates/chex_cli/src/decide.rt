@@ -1,5 +1,5 @@
 //! What is to be written, made whole before the first write.
-ghost use Rattle.std.specs.Prelude.{◌≡◌, ◌≤◌, ◌⊎◌, None, Ok, Err, IfErr, IfOk, IfSome, map, string_bytes};
+ghost use Rattle.std.specs.Prelude.{◌≡◌, ◌≤◌, ◌⊎◌, None, Ok, Err, IfErr, IfOk, IfSome, length, map, string_bytes};
 ghost use Rattle.std.specs.Str.{encode_utf8_all};
 ghost use Rattle.chex_base.specs.Outside.{Rose};
 ghost use Rattle.chex_cli.specs.Ends.{Ends, IsDue, due, job_due};
@@ -10,6 +10,7 @@ ghost use Rattle.chex_cli.specs.Words.{command_of};
 use crate::checking::checked_versions;
 use crate::decision::Decision;
 use crate::files::read_job;
+use crate::nodes::merged;
 use crate::refusal::Refusal;
 use crate::running::job_text;
 use crate::version::Job;
@@ -65,15 +66,18 @@ fn text_due<L: Library>(alloc: Global, words: &[String], library: &mut L) -> Res
     text_of(alloc, job)
 }
 
-/// The text of the versions that are to run, or the first cell that is refused.
+/// The text of the versions that are to run, or the first cell that is refused, or their tree where it
+/// has too many nodes. Nothing runs before all that is known.
 fn text_of(alloc: Global, job: Job) -> Result<Text, Refusal>
-    requires { AreSmall job.versions }
+    requires small { AreSmall job.versions }
+    requires few { length job.versions ≤ 64 }
     ensures text { IfOk result (λ text. job_due job (Ok text)) }
     ensures refused { IfErr result (λ r. job_due job (Err r)) }
     ensures counted { IfErr result (λ r. (a0 a1 f0 f1 : _) → IsCounted r a0 a1 f0 f1) }
 {
     let Job { headed, versions } = job;
     let checked = checked_versions(alloc, versions)?;
+    merged(alloc, checked.as_slice())?;
     let text = job_text(alloc, headed, checked)?;
     Ok(text)
 }

@@ -1,5 +1,5 @@
 //! Reads the files that the words name, in order and each anew, up to the first refusal.
-ghost use Rattle.std.specs.Prelude.{◌≡◌, ◌≤◌, ◌⊎◌, ℕ, List, Result, None, Ok, Err, IfOk, IfErr, IfSome, map, string_bytes};
+ghost use Rattle.std.specs.Prelude.{◌≡◌, ◌≤◌, ◌⊎◌, ℕ, List, Result, None, Ok, Err, IfOk, IfErr, IfSome, length, map, string_bytes};
 ghost use Rattle.nb_reader.specs.Inputs.{inputs_file_of};
 ghost use Rattle.nb_reader.specs.Manifest.{manifest_of};
 ghost use Rattle.nb_reader.specs.Notebook.{notebook_of};
@@ -50,7 +50,7 @@ impl Format for Sources {
 impl Format for Manifest {
     ghost reading = { manifest_of };
 
-    ghost kept = { λ _. Unit {0} };
+    ghost kept = { λ manifest. length manifest.versions ≤ 64 };
 
     fn parse(alloc: Global, bytes: &[u8]) -> Result<Manifest, NbFault> {
         read_manifest(alloc, bytes)
@@ -80,6 +80,7 @@ pub fn read_job<L: Library>(
     ensures files { L.files library.new ≡ L.files library.old }
     ensures usage { asked.command_of (map string_bytes words.now) ≡ None → (result ≡ Err Refusal.Usage) ⊎ (result ≡ Err Refusal.NoMemory) }
     ensures short { IfOk result (λ job. AreSmall job.versions) }
+    ensures few { IfOk result (λ job. length job.versions ≤ 64) }
 {
     match command_of(alloc, words)? {
         None => Err(Refusal::Usage),
@@ -98,6 +99,7 @@ fn command_job<L: Library>(
     ensures later { (L.absences library.old ≤ L.absences library.new) × (L.faults library.old ≤ L.faults library.new) }
     ensures files { L.files library.new ≡ L.files library.old }
     ensures short { IfOk result (λ job. AreSmall job.versions) }
+    ensures few { IfOk result (λ job. length job.versions ≤ 64) }
 {
     match command {
         Command::Solo(name) => solo(alloc, library, name),
@@ -112,6 +114,7 @@ fn solo<L: Library>(alloc: Global, library: &mut L, name: &Text) -> Result<Job, 
     ensures later { (L.absences library.old ≤ L.absences library.new) × (L.faults library.old ≤ L.faults library.new) }
     ensures files { L.files library.new ≡ L.files library.old }
     ensures short { IfOk result (λ job. AreSmall job.versions) }
+    ensures few { IfOk result (λ job. length job.versions ≤ 64) }
 {
     let sources = file::<L, Sources>(alloc, library, name)?;
     Ok(solo_job(alloc, sources)?)
@@ -124,6 +127,7 @@ fn alone<L: Library>(alloc: Global, library: &mut L, name: &Text) -> Result<Job,
     ensures later { (L.absences library.old ≤ L.absences library.new) × (L.faults library.old ≤ L.faults library.new) }
     ensures files { L.files library.new ≡ L.files library.old }
     ensures short { IfOk result (λ job. AreSmall job.versions) }
+    ensures few { IfOk result (λ job. length job.versions ≤ 64) }
 {
     let manifest = file::<L, Manifest>(alloc, library, name)?;
     let versions = all_versions(alloc, library, manifest.versions.as_slice())?;
@@ -155,11 +159,13 @@ fn all_versions<L: Library>(
     library: &mut L,
     entries: &[Entry],
 ) -> Result<Versions, Refusal>
+    requires { length entries.now ≤ 64 }
     ensures read { IfSome (L.files library.old) (λ view. Answers (spec.versions_at view entries.now) result) }
     ensures counted { IfErr result (λ r. IsCounted r (L.absences library.old) (L.absences library.new) (L.faults library.old) (L.faults library.new)) }
     ensures later { (L.absences library.old ≤ L.absences library.new) × (L.faults library.old ≤ L.faults library.new) }
     ensures files { L.files library.new ≡ L.files library.old }
     ensures short { IfOk result AreSmall }
+    ensures few { IfOk result (λ versions. length versions ≤ 64) }
 {
     let mut versions = Versions::new(alloc);
     for entry in entries {

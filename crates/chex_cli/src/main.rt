@@ -15,6 +15,7 @@ mod decide;
 mod decision;
 mod files;
 mod known;
+mod nodes;
 mod refusal;
 mod running;
 mod version;

@@ -21,6 +21,8 @@ pub enum Refusal {
     BadFile { file: Text, fault: NbFault },
     /// A cell is refused, the first in the order of the versions and of their cells.
     BadCell(BadCell),
+    /// The versions have more than 512 distinct beginnings; `count` is their number.
+    TooManyNodes { count: u32 },
     /// Memory was wanting.
     NoMemory,
 }
@@ -36,6 +38,7 @@ impl Refusal {
             Refusal::ReadFailed { .. } => Status::ReadFault,
             Refusal::BadFile { fault, .. } => file_status(fault),
             Refusal::BadCell(_) => Status::BadCell,
+            Refusal::TooManyNodes { .. } => Status::TooMany,
             Refusal::NoMemory => Status::NoMemory,
         }
     }
@@ -54,6 +57,7 @@ impl Refusal {
                 bad_line(alloc, file.as_str(), why.as_str())
             }
             Refusal::BadCell(bad) => bad.line(alloc),
+            Refusal::TooManyNodes { count } => nodes_line(alloc, *count),
             Refusal::NoMemory => Ok(String::new(alloc)),
         }
     }
@@ -94,6 +98,12 @@ fn bad_line(alloc: Global, file: &str, reason: &str) -> Result<String, NoMemory>
     ensures { IfOk result (λ line. string_bytes line ≡ spec.bad_line file.now reason.now) }
 {
     Ok(format!(in alloc; "error: {file}: {reason}\n")?)
+}
+
+fn nodes_line(alloc: Global, count: u32) -> Result<String, NoMemory>
+    ensures { IfOk result (λ line. string_bytes line ≡ spec.nodes_line count) }
+{
+    Ok(format!(in alloc; "error: too many nodes: {count}\n")?)
 }
 
 /// What is wrong with a file, in words.

@@ -6,9 +6,9 @@ ghost use Rattle.star_meaning.specs.Cells as meaning;
 ghost use Rattle.chex_cli.specs.Ends.{most_steps};
 ghost use Rattle.chex_cli.specs.Texts as spec;
 
-use crate::checking::Checked;
 use chex_base::{Inputs, NoMemory, NodeId, Text};
 use chex_report::header;
+use exec_tree::Checked;
 use heap_store::Machine;
 use star_meaning::End;
 use star_run::run_cell;

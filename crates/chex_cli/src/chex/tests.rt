@@ -1,5 +1,6 @@
 //! Rows over files and sinks in memory.
 mod language;
+mod nodes;
 
 use super::*;
 use chex_base::{Calls, Files, MemoryLibrary, MemorySink, Text};
@@ -71,8 +72,19 @@ fn run(
     read_fails: u64,
     write_fails: u64,
 ) -> Result<Ended, Fail> {
-    let words = words_of(alloc, line)?;
     let held = files_of(alloc, files)?;
+    run_over(alloc, line, held, read_fails, write_fails)
+}
+
+/// The same over files that are held.
+fn run_over(
+    alloc: Global,
+    line: &str,
+    held: Files,
+    read_fails: u64,
+    write_fails: u64,
+) -> Result<Ended, Fail> {
+    let words = words_of(alloc, line)?;
     let mut library = MemoryLibrary::new(held, failing_call(alloc, read_fails)?);
     let mut out = MemorySink::new(alloc, 2000, failing_call(alloc, write_fails)?)?;
     let finish = chex(alloc, &words, &mut library, &mut out);

@@ -1,4 +1,4 @@
-use Rattle.std.proofs.Common.{ℕ, Ok, Err, map, string_bytes, inr}
+use Rattle.std.proofs.Common.{Ok, Err, map, string_bytes, inr}
 use Rattle.std.specs.Prelude.{IfSome}
 use Rattle.std.proofs.lemmas.Result.{IfOk-weaker, err_from_is_err_and}
 use Rattle.chex_cli.specs.Ends.{due}

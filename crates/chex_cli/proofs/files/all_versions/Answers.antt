@@ -1,4 +1,4 @@
-use Rattle.std.proofs.Common.{arith, ◌∙◌, refl}
+use Rattle.std.proofs.Common.{arith, ◌∙◌, ◌∷◌, [], ◌+◌, length-append, ap, refl}
 use Rattle.std.proofs.lemmas.Result.{err_from_is_err_and}
 use Rattle.chex_cli.specs.Files.{versions_at}
 use Rattle.chex_cli.proofs.ReadLemmas.{onward_first, onward_more, onward_refused, onward_last, handed_on}
@@ -12,6 +12,8 @@ loop-entry-init g c = record {
   absences = omega arith;
   faults = omega arith;
   short = rw c.new-versions.ensures tt;
+  count = rw c.new-versions.ensures refl;
+  within = omega arith;
 }
 
 pub returns-in_err-version-clause-read : goal.returns-in_err-version-clause-read
@@ -30,8 +32,13 @@ loop-entry-preserved g c = record {
   absences = omega (arith, c.in_ok-version.ensures.later.0, c.loop-entry.invariant.absences);
   faults = omega (arith, c.in_ok-version.ensures.later.1, c.loop-entry.invariant.faults);
   short = rw c.in_ok-add.ensures.ok (one_more_small c.loop-entry.versions c.in_ok-version.version c.loop-entry.invariant.short c.in_ok-version.ensures.short);
+  count = rw c.in_ok-add.ensures.ok (length-append c.loop-entry.versions (c.in_ok-version.version ∷ []) ∙ ap (λ n. n + 1) c.loop-entry.invariant.count);
+  within = omega (arith, c.loop-entry-test.true);
 }
 
 pub returns-clause-read : goal.returns-clause-read
 returns-clause-read g c =
     onward_last (g.L.Library.files c.args.library.now) c.loop-entry.versions c.loop-entry.entry-index c.args.entries.now (omega arith) c.loop-entry.invariant.read
+
+pub returns-clause-few : goal.returns-clause-few
+returns-clause-few g c = omega (arith, c.loop-entry.invariant.count, c.loop-entry.invariant.within, c.requires)

@@ -1,4 +1,4 @@
-use Rattle.std.proofs.Common.{◌≡◌, ◌≤◌, drop, List}
+use Rattle.std.proofs.Common.{◌≡◌, ◌≤◌, drop, length, List}
 use Rattle.std.specs.Prelude.{IfSome, Result}
 use Rattle.chex_cli.specs.declared.version.Version.{Version}
 use Rattle.chex_cli.specs.declared.refusal.Refusal.{Refusal}
@@ -18,4 +18,6 @@ invariant-loop-entry g l =
       absences : library.absences l.fn.library ≤ library.absences l.library;
       faults : library.faults l.fn.library ≤ library.faults l.library;
       short : AreSmall l.versions;
+      count : length l.versions ≡ l.entry-index;
+      within : l.entry-index ≤ length l.entries;
     }

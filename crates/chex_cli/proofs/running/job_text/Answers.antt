@@ -1,5 +1,4 @@
-use Rattle.std.proofs.Common.{rules, ◌≡◌, ◌≤◌, ◌++◌, ◌∷◌, [], ◌∙◌, length, arith, ap, refl, append_assoc}
-use Rattle.std.specs.List.{AllByRecursion}
+use Rattle.std.proofs.Common.{rules, ◌≡◌, ◌++◌, ◌∷◌, [], ◌∙◌, length, arith, ap, refl, append_assoc}
 use Rattle.std.specs.Vec.Iter.{into_iter_items}
 use Rattle.chex_cli.specs.Ends.{most_steps}
 use Rattle.chex_cli.specs.Texts.{version_text}
