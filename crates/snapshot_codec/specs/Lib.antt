@@ -1,0 +1,5 @@
+pub mod Contents
+pub mod Defined
+pub mod Building
+pub mod Decoding
+pub mod Reading
