@@ -19,3 +19,11 @@ pub mod Fitting
 pub mod DefinedLaws
 pub mod Building
 pub mod Decoding
+pub mod MeetingLaws
+pub mod Canons
+pub mod Agreeing
+pub mod NumberLaws
+pub mod Encoded
+pub mod WritingForms
+pub mod Sizes
+pub mod Lengths

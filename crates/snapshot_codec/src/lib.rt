@@ -5,8 +5,12 @@
 
 mod build;
 mod content;
+mod encoding;
 mod fault;
 mod fields;
+mod measures;
+mod meeting;
+mod numbers;
 mod objects;
 mod parts;
 mod reading;
@@ -15,6 +19,9 @@ mod snapshot;
 mod stop;
 mod tag;
 mod values;
+mod writing;
 
+pub use encoding::encode;
 pub use fault::SnapFault;
+pub use measures::size;
 pub use snapshot::decode;
