@@ -1,0 +1,4 @@
+pub mod Kernels
+pub mod Restoring
+pub mod Failing
+pub mod Alike
