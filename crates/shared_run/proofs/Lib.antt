@@ -1,0 +1,11 @@
+pub mod CanonLemmas
+pub mod SameLemmas
+pub mod LeftLemmas
+pub mod BeginningLemmas
+pub mod StateLemmas
+pub mod AlongLemmas
+pub mod AloneLemmas
+pub mod RecordLemmas
+pub mod TextLemmas
+pub mod WayLemmas
+pub mod CourseLemmas

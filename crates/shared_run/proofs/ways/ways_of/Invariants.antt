@@ -1,0 +1,7 @@
+use Rattle.std.proofs.Common.{◌≡◌, map, take}
+use Rattle.exec_tree.specs.Forests.{parents}
+use Rattle.shared_run.specs.Written.{way_to}
+use Rattle.shared_run.proofs.ways.ways_of.Given as goal
+
+abbrev pub invariant-loop-end : goal.invariant-loop-end
+invariant-loop-end l = l.ways ≡ map (way_to (parents l.forest)) (take l.end-index l.ends)

@@ -1,0 +1,5 @@
+pub mod Written
+pub mod Trees
+pub mod Planning
+pub mod Replaying
+pub mod Courses
