@@ -3,12 +3,7 @@
 # and prints it. Ends with 1 where one needs more than 8 MB.
 # A program other than the one that `run` builds may be named as first word.
 set -euo pipefail
-here="$(cd "$(dirname "${BASH_SOURCE[0]}")" && pwd)"
-top="$here/../.."
-program="${1:-$top/crates/chex_cli/out/chex_cli}"
-[ $# -gt 0 ] || "$top/run" solo "$top/examples/first.ipynb" >/dev/null
-folder="$(mktemp -d)"
-trap 'rm -rf "$folder"' EXIT
+source "$(dirname "${BASH_SOURCE[0]}")/program.sh"
 python3 "$here/deepest.py" "$folder"
 # Writes what the program writes under so many kilobytes of stack, and then its status.
 under() {

@@ -3,12 +3,7 @@
 # may, and prints the status of each. Ends with 1 where one is ended by a signal.
 # A program other than the one that `run` builds may be named as first word.
 set -euo pipefail
-here="$(cd "$(dirname "${BASH_SOURCE[0]}")" && pwd)"
-top="$here/../.."
-program="${1:-$top/crates/chex_cli/out/chex_cli}"
-[ $# -gt 0 ] || "$top/run" solo "$top/examples/first.ipynb" >/dev/null
-folder="$(mktemp -d)"
-trap 'rm -rf "$folder"' EXIT
+source "$(dirname "${BASH_SOURCE[0]}")/program.sh"
 python3 "$here/rows.py" "$folder"
 failed=0
 for kilobytes in 8192 2048; do
