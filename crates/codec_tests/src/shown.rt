@@ -1,7 +1,7 @@
 //! Machines as texts: the nodes that have run, the global names with their values, and the objects
 //! in order of number, with bars between; a dash where there is none. A list is shown by `[1]`, a
 //! dict by `{1: 2}`, a function by its node, its number there and its defaults, `2.0(1, 2)`. In a
-//! value the list, dict or function of number 3 is `L3`, `D3` or `F3`.
+//! value an object is shown by `L`, `D` or `F`, for a list, a dict or a function, and its number.
 ghost use Rattle.std.specs.Prelude.{◌<◌, length, slice_get, IsTrue};
 ghost use Rattle.star_meaning.specs.Validity.{is_dict, is_function, is_list};
 
