@@ -1,0 +1,4 @@
+pub mod NameLemmas
+pub mod CellLemmas
+pub mod WrongLemmas
+pub mod ReadLemmas
