@@ -6,7 +6,8 @@ use Rattle.std.specs.Ordering.{is_eq, match_ordering}
 use Rattle.std.specs.FinMap.{nat_cmp-IsAntisymmetric, slice_cmp-IsAntisymmetric}
 use Rattle.chex_base.specs.TextOrder.{text_cmp}
 use Rattle.star_syntax.specs.CellParts.{CellParts}
-use Rattle.chex_cli.specs.Cells.{IsCellOf, AreKnown}
+use Rattle.cell_reader.specs.Cells.{IsCellOf}
+use Rattle.chex_cli.specs.Cells.{AreKnown}
 
 same_text : (a b : List ℕ) → text_cmp a b ≡ Equal → a ≡ b
 same_text a b is = slice_cmp-IsAntisymmetric nat_cmp-IsAntisymmetric a b is

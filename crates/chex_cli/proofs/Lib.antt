@@ -2,9 +2,7 @@ pub mod ReadLemmas
 pub mod ZipLemmas
 pub mod FirstLemmas
 pub mod RefusedLemmas
-pub mod NameLemmas
 pub mod CellLemmas
-pub mod WrongLemmas
 pub mod KnownLemmas
 pub mod TextLemmas
 pub mod NodeLemmas

@@ -1,6 +1,6 @@
 -- The words and the files call for one answer at most, beside a failed read and want of memory.
 use Rattle.std.proofs.Common.{◌≡◌, inl, inr, ℕ, List, Result, Ok, Err, sym, ◌∙◌, ap, subst, refl}
-use Rattle.chex_cli.specs.declared.cell.Reason.{Reason}
+use Rattle.cell_reader.specs.declared.cell.Reason.{Reason}
 use Rattle.chex_cli.specs.declared.bad_cell.BadCell.{BadCell}
 use Rattle.chex_cli.specs.declared.refusal.Refusal.{Refusal}
 use Rattle.chex_cli.specs.declared.refusal.Refusal.TheVariants.{Usage, Absent, ReadFailed, BadFile, NoMemory}
@@ -11,14 +11,15 @@ use Rattle.exec_tree.specs.declared.checked.Checked.{Checked}
 use Rattle.chex_cli.specs.Reads.{FileView, Read, Answers}
 use Rattle.chex_cli.specs.Files.{job_at}
 use Rattle.chex_cli.specs.Stages.{Stage, pure, of, ◌>>=◌, IsCertain, IsSingle}
-use Rattle.chex_cli.specs.Cells.{IsCellOf, IsWrong}
+use Rattle.cell_reader.specs.Cells.{IsCellOf, IsWrong}
 use Rattle.chex_cli.specs.Jobs.{IsChecked, IsBadIn, IsFirstBad, checked}
 use Rattle.chex_cli.specs.Nodes.{nodes}
 use Rattle.chex_cli.specs.Texts.{job_text}
 use Rattle.chex_cli.specs.Ends.{due, job_due, most_steps}
 use Rattle.chex_cli.proofs.FirstLemmas.{first_once}
-use Rattle.chex_cli.proofs.CellLemmas.{cell_apart, version_apart, bad_apart, all_checked_once}
-use Rattle.chex_cli.proofs.WrongLemmas.{wrong_once}
+use Rattle.cell_reader.proofs.CellLemmas.{cell_apart}
+use Rattle.cell_reader.proofs.WrongLemmas.{wrong_once}
+use Rattle.chex_cli.proofs.CellLemmas.{version_apart, bad_apart, all_checked_once}
 use Rattle.chex_cli.proofs.NodeLemmas.{nodes_single}
 
 -- ---- the first cell that is refused

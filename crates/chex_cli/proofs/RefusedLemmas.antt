@@ -5,7 +5,7 @@ use Rattle.chex_cli.specs.declared.refusal.Refusal.{Refusal}
 use Rattle.chex_cli.specs.declared.refusal.Refusal.TheVariants as refusal
 use Rattle.chex_cli.specs.declared.version.Version.{Version}
 use Rattle.exec_tree.specs.declared.checked.Checked.{Checked}
-use Rattle.chex_cli.specs.Cells.{IsCellOf}
+use Rattle.cell_reader.specs.Cells.{IsCellOf}
 use Rattle.chex_cli.specs.Jobs.{AreChecked, AreSmall, IsChecked, IsBadIn, IsFirstBad, IsCellRefusal}
 
 -- what a version is refused for is what they all are refused for, where those before it are accepted

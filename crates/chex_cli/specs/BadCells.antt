@@ -6,8 +6,8 @@ use Rattle.star_lexer.specs.declared.error.LexKind.{LexKind}
 use Rattle.star_lexer.specs.declared.error.LexKind.TheVariants as token
 use Rattle.star_resolver.specs.declared.error.ResolveKind.{ResolveKind}
 use Rattle.star_resolver.specs.declared.error.ResolveKind.TheVariants as placement
-use Rattle.chex_cli.specs.declared.cell.Reason.{Reason}
-use Rattle.chex_cli.specs.declared.cell.Reason.TheVariants as reason
+use Rattle.cell_reader.specs.declared.cell.Reason.{Reason}
+use Rattle.cell_reader.specs.declared.cell.Reason.TheVariants as reason
 use Rattle.chex_cli.specs.declared.bad_cell.BadCell.{BadCell}
 
 -- how what is wrong with the tokens is named

@@ -2,14 +2,14 @@
 use Rattle.std.specs.Prelude.{◌≡◌, ◌≤◌, ◌+◌, ℕ, List, ◌∷◌, ◌++◌, length, Ok, Err}
 use Rattle.std.specs.List.{AllByRecursion, AllZip}
 use Rattle.nb_reader.specs.Notebook.{AreShort}
-use Rattle.chex_cli.specs.declared.cell.Reason.{Reason}
+use Rattle.cell_reader.specs.declared.cell.Reason.{Reason}
 use Rattle.chex_cli.specs.declared.version.Version.{Version}
 use Rattle.chex_cli.specs.declared.bad_cell.BadCell.{BadCell}
 use Rattle.exec_tree.specs.declared.checked.Checked.{Checked}
 use Rattle.chex_cli.specs.declared.refusal.Refusal.{Refusal}
 use Rattle.chex_cli.specs.declared.refusal.Refusal.TheVariants as refusal
 use Rattle.chex_cli.specs.Stages.{Stage}
-use Rattle.chex_cli.specs.Cells.{IsCellOf, IsWrong}
+use Rattle.cell_reader.specs.Cells.{IsCellOf, IsWrong}
 
 -- at most 64 sources, each of at most 65,536 bytes
 abbrev pub AreSources : List (List ℕ) → Type 0

@@ -2,7 +2,7 @@
 ghost use Rattle.std.specs.Prelude.{◌≡◌, IfOk, string_bytes};
 ghost use Rattle.chex_cli.specs.BadCells as spec;
 
-use crate::cell::Reason;
+use cell_reader::Reason;
 use chex_base::{NoMemory, Text};
 use star_lexer::LexKind;
 use star_resolver::ResolveKind;

@@ -3,10 +3,10 @@ ghost use Rattle.std.specs.Prelude.{Err, IfErr, IfOk};
 ghost use Rattle.chex_cli.specs.Jobs as spec;
 
 use crate::bad_cell::BadCell;
-use crate::cell::CellFault;
 use crate::known::Known;
 use crate::refusal::Refusal;
 use crate::version::{Version, Versions};
+use cell_reader::CellFault;
 use exec_tree::Checked;
 use star_syntax::Cells;
 use std::alloc::Global;

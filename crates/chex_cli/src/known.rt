@@ -1,9 +1,9 @@
 //! The cells of the sources that were looked at.
 ghost use Rattle.std.specs.Prelude.{◌≡◌, ◌≤◌, [], IfOk, IfErr, length};
 ghost use Rattle.std.specs.Str.{encode_utf8_all};
-ghost use Rattle.chex_cli.specs.Cells as spec;
+ghost use Rattle.cell_reader.specs.Cells as spec;
 
-use crate::cell::{CellFault, cell_of};
+use cell_reader::{CellFault, read_cell};
 use chex_base::Text;
 use star_syntax::Cell;
 use std::alloc::Global;
@@ -54,7 +54,7 @@ impl Known {
         if let Some(cell) = self.cells.get(source) {
             return Ok(cell.copy(alloc)?);
         }
-        let cell = cell_of(alloc, source)?;
+        let cell = read_cell(alloc, source)?;
         self.cells.insert(source.copy(alloc)?, cell.copy(alloc)?)?;
         Ok(cell)
     }

@@ -7,7 +7,6 @@ ghost use Rattle.std.specs.Process.{exit_status};
 ghost use Rattle.chex_cli.specs.Exits.{IsExit};
 
 mod bad_cell;
-mod cell;
 mod checking;
 mod chex;
 mod command;

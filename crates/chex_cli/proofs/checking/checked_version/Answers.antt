@@ -1,6 +1,6 @@
 use Rattle.std.proofs.Common.{rules, ◌≡◌, ℕ}
-use Rattle.chex_cli.specs.declared.cell.Reason.{Reason}
-use Rattle.chex_cli.specs.Cells.{IsCellOf, IsWrong}
+use Rattle.cell_reader.specs.declared.cell.Reason.{Reason}
+use Rattle.cell_reader.specs.Cells.{IsCellOf, IsWrong}
 use Rattle.chex_cli.proofs.ZipLemmas.{zip_next}
 use Rattle.chex_cli.proofs.FirstLemmas.{first_here}
 use Rattle.chex_cli.proofs.checking.checked_version.Goals as goal

@@ -1,6 +1,6 @@
 use Rattle.std.proofs.Common.{◌≡◌, take}
 use Rattle.std.specs.List.{AllZip}
-use Rattle.chex_cli.specs.Cells.{IsCellOf}
+use Rattle.cell_reader.specs.Cells.{IsCellOf}
 use Rattle.chex_cli.proofs.checking.checked_version.Given as goal
 
 abbrev pub invariant-loop-place : goal.invariant-loop-place
