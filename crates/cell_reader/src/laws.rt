@@ -3,7 +3,7 @@ ghost use Rattle.cell_reader.specs.Laws as laws;
 
 /// A source gives a cell or is wrong, never both. It gives one cell at most, and one thing at most is
 /// wrong with it.
-#[tactic(auto, using(crate::proofs::CellLemmas::cell_once, crate::proofs::CellLemmas::cell_apart, crate::proofs::WrongLemmas::wrong_once))]
+#[tactic(auto, using(crate::proofs::WrongLemmas::wrong_once))]
 pub fn one_answer()
     ensures cell { laws.OneCell }
     ensures apart { laws.NeverBoth }
