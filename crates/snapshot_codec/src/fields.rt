@@ -11,6 +11,7 @@ use heap_store::Kind;
 use star_value::Builtin;
 use std::alloc::Global;
 
+/// A byte, or `Short` where there is none.
 pub fn byte_at(bytes: &[u8]) -> Result<(u8, &[u8]), Stop>
     ensures { Gives (λ x. (x.0, x.1.now)) result (byte_at bytes.now) }
 {
@@ -20,6 +21,7 @@ pub fn byte_at(bytes: &[u8]) -> Result<(u8, &[u8]), Stop>
     }
 }
 
+/// A number of four bytes, the greatest first.
 #[tactic(auto, unfolding(crate::specs::Reading::id_at))]
 pub fn id_at(bytes: &[u8]) -> Result<(u32, &[u8]), Stop>
     ensures { Gives (λ x. (x.0, x.1.now)) result (id_at bytes.now) }
@@ -32,6 +34,7 @@ pub fn id_at(bytes: &[u8]) -> Result<(u32, &[u8]), Stop>
     Ok((number, rest))
 }
 
+/// A number of eight bytes, the greatest first.
 #[tactic(auto, unfolding(crate::specs::Reading::count_at))]
 pub fn count_at(bytes: &[u8]) -> Result<(u64, &[u8]), Stop>
     ensures { Gives (λ x. (x.0, x.1.now)) result (count_at bytes.now) }
@@ -46,6 +49,7 @@ pub fn count_at(bytes: &[u8]) -> Result<(u64, &[u8]), Stop>
     Ok((number, rest))
 }
 
+/// An integer of sixteen bytes in two's complement, the greatest first.
 #[tactic(auto, unfolding(crate::specs::Reading::integer_at))]
 pub fn integer_at(bytes: &[u8]) -> Result<(i128, &[u8]), Stop>
     ensures { Gives (λ x. (x.0, x.1.now)) result (integer_at bytes.now) }
@@ -56,6 +60,7 @@ pub fn integer_at(bytes: &[u8]) -> Result<(i128, &[u8]), Stop>
     Ok((bits.cast_signed(), rest))
 }
 
+/// The text of these bytes, or `BadText` where they are no UTF-8.
 #[tactic(auto, using(crate::proofs::Texts::utf8_so, crate::proofs::Texts::utf8_not))]
 fn points_of(alloc: Global, bytes: &[u8]) -> Result<Text, Stop>
     ensures { Gives (λ x. x) result (points_of bytes.now) }
@@ -66,6 +71,7 @@ fn points_of(alloc: Global, bytes: &[u8]) -> Result<Text, Stop>
     }
 }
 
+/// A count of bytes and a text of so many.
 #[tactic(auto, unfolding(crate::specs::Reading::text_at))]
 pub fn text_at(alloc: Global, bytes: &[u8]) -> Result<(Text, &[u8]), Stop>
     ensures { Gives (λ x. (x.0, x.1.now)) result (text_at bytes.now) }
@@ -80,6 +86,7 @@ pub fn text_at(alloc: Global, bytes: &[u8]) -> Result<(Text, &[u8]), Stop>
     Ok((text, rest))
 }
 
+/// The kind of value with this tag.
 fn tag_of(byte: u8) -> Option<Tag>
     ensures { result ≡ tag_of byte }
 {
@@ -99,6 +106,7 @@ fn tag_of(byte: u8) -> Option<Tag>
     }
 }
 
+/// The tag of a value, or `BadTag` where the byte is none.
 #[tactic(auto, unfolding(crate::specs::Reading::tag_at))]
 pub fn tag_at(bytes: &[u8]) -> Result<(Tag, &[u8]), Stop>
     ensures { Gives (λ x. (x.0, x.1.now)) result (tag_at bytes.now) }
@@ -110,6 +118,7 @@ pub fn tag_at(bytes: &[u8]) -> Result<(Tag, &[u8]), Stop>
     }
 }
 
+/// The kind of object with this tag.
 fn kind_of(byte: u8) -> Option<Kind>
     ensures { result ≡ kind_of byte }
 {
@@ -121,6 +130,7 @@ fn kind_of(byte: u8) -> Option<Kind>
     }
 }
 
+/// The tag of an object, or `BadTag` where the byte is none.
 #[tactic(auto, unfolding(crate::specs::Reading::kind_at))]
 pub fn kind_at(bytes: &[u8]) -> Result<(Kind, &[u8]), Stop>
     ensures { Gives (λ x. (x.0, x.1.now)) result (kind_at bytes.now) }

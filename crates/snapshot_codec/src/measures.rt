@@ -15,12 +15,14 @@ use heap_store::{Kind, Machine, Pairs};
 use star_value::{Key, Value};
 use std::alloc::Global;
 
+/// What a count of bytes and the text take.
 pub fn text_size(text: &Text) -> u64
     ensures { result ≡ min (length (text_bytes text.now)) (2 ^ 64 - 1) }
 {
     (text.as_str().len() as u64).saturating_add(8)
 }
 
+/// What a value takes, its tag among it.
 #[cycle(value_size)]
 #[tactic(auto, using(crate::proofs::Sizes::value_cases))]
 pub fn value_size(value: &Value) -> u64
@@ -52,6 +54,7 @@ pub fn values_size(values: &[Value]) -> u64
     size
 }
 
+/// What a key takes, which is what its value takes.
 #[cycle(key_size)]
 #[tactic(auto, using(crate::proofs::Sizes::key_cases))]
 pub fn key_size(key: &Key) -> u64
@@ -66,6 +69,7 @@ pub fn key_size(key: &Key) -> u64
     }
 }
 
+/// What a count and the keys take.
 #[cycle(key_size)]
 fn keys_size(parts: &[Key]) -> u64
     ensures { result ≡ min (length (counted (λ key. value_bytes (keys.value_of key)) parts.now)) (2 ^ 64 - 1) }
@@ -77,6 +81,7 @@ fn keys_size(parts: &[Key]) -> u64
     size
 }
 
+/// What a key and its value take.
 fn pair_size(key: &Key, value: &Value) -> u64
     ensures { result ≡ min (length (pair_bytes (key.now, value.now))) (2 ^ 64 - 1) }
 {
@@ -85,6 +90,7 @@ fn pair_size(key: &Key, value: &Value) -> u64
     front.saturating_add(back)
 }
 
+/// What a count and the pairs take.
 fn pairs_size(pairs: &Pairs) -> u64
     ensures { result ≡ min (length (counted pair_bytes pairs.now)) (2 ^ 64 - 1) }
 {
@@ -98,6 +104,7 @@ fn pairs_size(pairs: &Pairs) -> u64
     size
 }
 
+/// What a list takes, its tag among it.
 fn list_size(items: &[Value]) -> u64
     ensures { result ≡ min (length (object_bytes (AList items.now))) (2 ^ 64 - 1) }
 {
@@ -105,6 +112,7 @@ fn list_size(items: &[Value]) -> u64
     size.saturating_add(1)
 }
 
+/// What a dict takes, its tag among it.
 fn dict_size(pairs: &Pairs) -> u64
     ensures { result ≡ min (length (object_bytes (ADict pairs.now))) (2 ^ 64 - 1) }
 {
@@ -112,6 +120,7 @@ fn dict_size(pairs: &Pairs) -> u64
     size.saturating_add(1)
 }
 
+/// What a function takes with these defaults, its tag, cell and number among it.
 fn function_size(defaults: &[Value]) -> u64
     ensures { (cell number : ℕ) → result ≡ min (length (object_bytes (AFunction cell number defaults.now))) (2 ^ 64 - 1) }
 {
@@ -119,6 +128,7 @@ fn function_size(defaults: &[Value]) -> u64
     size.saturating_add(9)
 }
 
+/// What an object takes.
 fn object_size(machine: &Machine, id: ObjectId) -> u64
     requires { id < length machine.now.state.objects }
     ensures { result ≡ min (length (found_bytes (slice_get machine.now.state.objects id))) (2 ^ 64 - 1) }
@@ -155,6 +165,7 @@ fn objects_size(numbers: &Numbers, machine: &Machine) -> u64
     size
 }
 
+/// What a name and its value take.
 fn global_size(name: &Text, value: &Value) -> u64
     ensures { result ≡ min (length (global_bytes (name.now, value.now))) (2 ^ 64 - 1) }
 {
@@ -184,6 +195,7 @@ fn nodes_size(ran: &[NodeId]) -> u64
     8 + 4 * ran.len() as u64
 }
 
+/// What the four bytes in front, the nodes, the globals and the objects take.
 fn state_size(numbers: &Numbers, machine: &Machine) -> u64
     requires { IsOrder machine.now numbers.now.order.keys }
     ensures { result ≡ min (length (bytes_in machine.now numbers.now.order.keys)) (2 ^ 64 - 1) }

@@ -1,6 +1,6 @@
 //! Adds the bytes of values to a list of bytes. `numbers` has the numbers of the objects to which
 //! they refer; what was added is of no use where memory was wanting.
-ghost use Rattle.std.specs.Prelude.{◌≡◌, ◌++◌, ◌∷◌, OnOk};
+ghost use Rattle.std.specs.Prelude.{◌≡◌, ◌++◌, [], ◌∷◌, OnOk};
 ghost use Rattle.std.specs.Int.{to_be_bytes, w128};
 ghost use Rattle.star_meaning.specs.Snapshot.{builtin_byte, count_bytes, id_bytes, integer_bytes, text_bytes, value_bytes, counted};
 ghost use Rattle.star_value.specs.Keys as keys;
@@ -11,6 +11,7 @@ use chex_base::{NoMemory, ObjectId, Text};
 use heap_store::Pairs;
 use star_value::{Builtin, Key, Value};
 
+/// Adds a number of eight bytes, the greatest first.
 pub fn put_count(out: &mut Vec<u8>, count: usize) -> Result<(), NoMemory>
     ensures { OnOk result (out.new.items ≡ out.old.items ++ count_bytes count) }
 {
@@ -18,6 +19,7 @@ pub fn put_count(out: &mut Vec<u8>, count: usize) -> Result<(), NoMemory>
     Ok(())
 }
 
+/// Adds a number of four bytes, the greatest first.
 pub fn put_id(out: &mut Vec<u8>, id: u32) -> Result<(), NoMemory>
     ensures { OnOk result (out.new.items ≡ out.old.items ++ id_bytes id) }
 {
@@ -25,6 +27,7 @@ pub fn put_id(out: &mut Vec<u8>, id: u32) -> Result<(), NoMemory>
     Ok(())
 }
 
+/// Adds sixteen bytes, the greatest first.
 fn put_bits(out: &mut Vec<u8>, bits: u128) -> Result<(), NoMemory>
     ensures { OnOk result (out.new.items ≡ out.old.items ++ to_be_bytes w128 bits) }
 {
@@ -32,6 +35,7 @@ fn put_bits(out: &mut Vec<u8>, bits: u128) -> Result<(), NoMemory>
     Ok(())
 }
 
+/// Adds an integer of sixteen bytes in two's complement, the greatest first.
 fn put_integer(out: &mut Vec<u8>, number: &i128) -> Result<(), NoMemory>
     ensures { OnOk result (out.new.items ≡ out.old.items ++ integer_bytes number.now) }
 {
@@ -39,12 +43,21 @@ fn put_integer(out: &mut Vec<u8>, number: &i128) -> Result<(), NoMemory>
     Ok(())
 }
 
+/// Adds a count of bytes and a text.
 pub fn put_text(out: &mut Vec<u8>, text: &Text) -> Result<(), NoMemory>
     ensures { OnOk result (out.new.items ≡ out.old.items ++ text_bytes text.now) }
 {
     let bytes = text.as_str().as_bytes();
     put_count(out, bytes.len())?;
     out.extend_from_slice(bytes)?;
+    Ok(())
+}
+
+/// Adds a tag.
+fn put_tag(out: &mut Vec<u8>, tag: u8) -> Result<(), NoMemory>
+    ensures { OnOk result (out.new.items ≡ out.old.items ++ tag ∷ []) }
+{
+    out.push(tag)?;
     Ok(())
 }
 
@@ -99,18 +112,9 @@ pub fn put_value(out: &mut Vec<u8>, numbers: &Numbers, value: &Value) -> Result<
     ensures { OnOk result (out.new.items ≡ out.old.items ++ value_bytes_by (number_in numbers.now.order.keys) value.now) }
 {
     match value {
-        Value::None => {
-            out.push(0)?;
-            Ok(())
-        }
-        Value::Bool(false) => {
-            out.push(1)?;
-            Ok(())
-        }
-        Value::Bool(true) => {
-            out.push(2)?;
-            Ok(())
-        }
+        Value::None => put_tag(out, 0),
+        Value::Bool(false) => put_tag(out, 1),
+        Value::Bool(true) => put_tag(out, 2),
         Value::Int(number) => {
             out.push(3)?;
             put_integer(out, number)?;
@@ -133,18 +137,9 @@ pub fn put_value(out: &mut Vec<u8>, numbers: &Numbers, value: &Value) -> Result<
             put_integer(out, &range.step)?;
             Ok(())
         }
-        Value::List(id) => {
-            put_reference(out, 7, numbers, *id)?;
-            Ok(())
-        }
-        Value::Dict(id) => {
-            put_reference(out, 8, numbers, *id)?;
-            Ok(())
-        }
-        Value::Function(id) => {
-            put_reference(out, 9, numbers, *id)?;
-            Ok(())
-        }
+        Value::List(id) => put_reference(out, 7, numbers, *id),
+        Value::Dict(id) => put_reference(out, 8, numbers, *id),
+        Value::Function(id) => put_reference(out, 9, numbers, *id),
         Value::Builtin(which) => {
             out.push(10)?;
             out.push(builtin_byte(*which))?;
@@ -172,18 +167,9 @@ fn put_key(out: &mut Vec<u8>, key: &Key) -> Result<(), NoMemory>
     ensures { OnOk result (out.new.items ≡ out.old.items ++ value_bytes (keys.value_of key.now)) }
 {
     match key {
-        Key::None => {
-            out.push(0)?;
-            Ok(())
-        }
-        Key::Bool(false) => {
-            out.push(1)?;
-            Ok(())
-        }
-        Key::Bool(true) => {
-            out.push(2)?;
-            Ok(())
-        }
+        Key::None => put_tag(out, 0),
+        Key::Bool(false) => put_tag(out, 1),
+        Key::Bool(true) => put_tag(out, 2),
         Key::Int(number) => {
             out.push(3)?;
             put_integer(out, number)?;
@@ -202,6 +188,7 @@ fn put_key(out: &mut Vec<u8>, key: &Key) -> Result<(), NoMemory>
     }
 }
 
+/// Adds a count and the bytes of the keys.
 #[cycle(put_key)]
 fn put_keys(out: &mut Vec<u8>, parts: &[Key]) -> Result<(), NoMemory>
     ensures { OnOk result (out.new.items ≡ out.old.items ++ counted (λ key. value_bytes (keys.value_of key)) parts.now) }
