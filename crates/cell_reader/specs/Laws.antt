@@ -1,6 +1,5 @@
 -- Laws of what sources give.
 use Rattle.std.specs.Prelude.{◌≡◌, ℕ, List}
-use Rattle.std.specs.List.{All, Contains}
 use Rattle.star_syntax.specs.CellParts.{CellParts}
 use Rattle.star_syntax.specs.Placement.{AreInputNames}
 use Rattle.cell_reader.specs.declared.cell.Reason.{Reason}
