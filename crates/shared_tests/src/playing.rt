@@ -32,7 +32,7 @@ pub fn play(alloc: Global, case: &Case) -> Result<String, Fault> {
     run(alloc, case, versions.as_slice())
 }
 
-#[tactic(auto, using(crate::proofs::FitLemmas::few_cells, crate::proofs::FitLemmas::have_sources, crate::proofs::FitLemmas::have_names))]
+#[tactic(auto, using(crate::proofs::FitLemmas::few_cells, crate::proofs::FitLemmas::have_names))]
 fn run(alloc: Global, case: &Case, versions: &[Checked]) -> Result<String, Fault>
     requires few { length versions.now ≤ 64 }
     requires fit { All IsFit versions.now }
