@@ -1,8 +1,7 @@
 //! Plays a case.
 ghost use Rattle.std.specs.Prelude.{◌≤◌, length, All};
 ghost use Rattle.plan_type.specs.Costs.{IsSound};
-ghost use Rattle.plan_type.specs.Plan.{IsPlan, work};
-ghost use Rattle.star_kernel.specs.Kernels.{steps_of};
+ghost use Rattle.plan_type.specs.Plan.{IsPlan};
 ghost use Rattle.shared_tests.specs.Versions.{IsFit};
 
 use crate::cases::Case;
@@ -73,15 +72,16 @@ fn shown(
 ) -> Result<String, Fault>
     requires sound { IsSound shared.now.costs }
     requires class { IsPlan shared.now.costs shared.now.plan }
-    requires steps { work shared.now.costs shared.now.plan ≤ steps_of kernel.now }
 {
     let mut text = format!(in alloc; "{}:\n", case.name)?;
     add_texts(&mut text, shared)?;
     add_rows(alloc, &mut text, shared.costs.rows.as_slice())?;
-    let replayed = shared.plan.work(&shared.costs);
-    let alone = kernel.steps() - replayed;
     let rest = format!(in alloc;
-        "alone {alone} steps, replayed {replayed} steps, peak {} of {} blocks, {} held at the end\n",
+        "nodes {}, alone {} steps, replayed {} steps, kernel {} steps, peak {} of {} blocks, {} held at the end\n",
+        shared.reached(),
+        shared.alone(),
+        shared.plan.work(&shared.costs),
+        kernel.steps(),
         store.peak(),
         case.most,
         store.used()
