@@ -5,7 +5,7 @@ use Rattle.std.proofs.lemmas.List.{take_all}
 use Rattle.plan_type.specs.Costs.{children_of}
 use Rattle.plan_type.specs.Plan.{named, IsPlanOf}
 use Rattle.plan_type.proofs.Tested.{plan_seen}
-use Rattle.plan_tests.proofs.plans.+is_plan_of.Goals as goal
+use Rattle.plan_tests.proofs.class.+is_plan_of.Goals as goal
 
 pub returns : goal.returns
 returns t c on =

@@ -2,7 +2,7 @@ use Rattle.std.proofs.Common.{◌≡◌, take}
 use Rattle.std.specs.List.{AllByRecursion}
 use Rattle.plan_type.specs.Costs.{children_of}
 use Rattle.plan_type.specs.Plan.{named, IsPlanOf}
-use Rattle.plan_tests.proofs.plans.+is_plan_of.Given as goal
+use Rattle.plan_tests.proofs.class.+is_plan_of.Given as goal
 
 abbrev pub decreases-is_plan_of : goal.decreases-is_plan_of
 decreases-is_plan_of l = goal.size-is_plan_of l
