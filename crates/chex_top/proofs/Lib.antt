@@ -4,7 +4,6 @@ pub mod FirstLemmas
 pub mod RefusedLemmas
 pub mod CellLemmas
 pub mod KnownLemmas
-pub mod TextLemmas
 pub mod NodeLemmas
 pub mod OnceLemmas
 pub mod EndLemmas
