@@ -5,5 +5,7 @@ pub mod RefusedLemmas
 pub mod CellLemmas
 pub mod KnownLemmas
 pub mod NodeLemmas
+pub mod WordLemmas
+pub mod TaskLemmas
 pub mod OnceLemmas
 pub mod EndLemmas

@@ -164,11 +164,16 @@ Says end status plan bytes = (status ≡ end.status) × (plan ≡ end.plan) × (
 abbrev pub Leaves : End → ℕ → ℕ → Option MachineState → Stock → Type 0
 Leaves end before now live stock = (end.status ≡ ended.Done → now ≡ before + end.steps) × (live ≡ end.live) × (stock ≡ end.stock)
 
+-- the plan that is left where the write of what goes with this status fails: that of a command that was done
+pub record IsKept (status : Status) (plan kept : Plan) : Type 0 where
+  pub whole : status ≡ ended.Done → kept ≡ plan
+  pub none : status ≢ ended.Done → HasNoPlan kept
+
 -- The whole text was written, which is none where memory was wanting; or a write failed, and a prefix of it was.
 abbrev pub Written : End → Status → Plan → Option (List ℕ) → Option (List ℕ) → Type 0
-Written end status plan before now = (plan ≡ end.plan) × (
-    ((status ≡ end.status) × GrewBy end.text before now)
-    ⊎ ((status ≡ ended.WriteFault) × (end.status ≢ ended.NoMemory) × GrewByPrefix end.text before now))
+Written end status plan before now =
+    ((status ≡ end.status) × (plan ≡ end.plan) × GrewBy end.text before now)
+    ⊎ ((status ≡ ended.WriteFault) × (end.status ≢ ended.NoMemory) × IsKept end.status end.plan plan × GrewByPrefix end.text before now)
 
 -- what may end any call: memory was wanting, a read, a write, the kernel or the store failed, or a store that does not tell its bytes
 -- gave others

@@ -18,7 +18,7 @@ pub enum Asked {
 /// What the words ask for. Words that are no command are refused, and so are those of a command that
 /// is not carried out.
 #[tactic(auto, unfolding(crate::specs::Words::asked_of))]
-pub fn asked(alloc: Global, words: &[String]) -> Result<Asked, Refusal>
+pub fn read_asked(alloc: Global, words: &[String]) -> Result<Asked, Refusal>
     ensures ok { IfOk result (λ asked. spec.asked_of (map string_bytes words.now) ≡ Some asked) }
     ensures within { IfOk result spec.IsWithin }
     ensures refused { IfErr result (λ r. ((r ≡ Refusal.Usage) × (spec.asked_of (map string_bytes words.now) ≡ None)) ⊎ (r ≡ Refusal.NoMemory)) }

@@ -3,14 +3,14 @@ ghost use Rattle.std.specs.Prelude.{◌≡◌, ◌⊎◌, ◌≤◌, ◌^◌, �
 ghost use Rattle.chex_base.specs.Outside.{Rose};
 ghost use Rattle.replayer.specs.Listening.{TellsAllBy};
 ghost use Rattle.chex_top.specs.declared.task.Task.{Task as ATask};
-ghost use Rattle.chex_top.specs.Ends.{End, IsDue, Leaves, Written, Yields};
+ghost use Rattle.chex_top.specs.Ends.{End, IsDue, IsKept, Leaves, Written, Yields};
 ghost use Rattle.chex_top.specs.Refusals.{status_of};
 ghost use Rattle.chex_top.specs.Stages.{IsCertain};
 ghost use Rattle.chex_top.specs.Tasks.{due};
 ghost use Rattle.chex_top.specs.Words.{asked_of};
 
 use crate::decide::decide;
-use crate::decision::Decision;
+use crate::decision::{Decision, no_plan};
 use chex_base::{Library, Sink, Status};
 use kernel_api::{Kernel, Store};
 use plan_type::Plan;
@@ -78,7 +78,18 @@ pub fn chex<L: Library, W: Sink, K: Kernel, S: Store>(
         Ok(()) => Finish { status, plan },
         Err(_) => Finish {
             status: Status::WriteFault,
-            plan,
+            plan: kept(alloc, status, plan),
         },
+    }
+}
+
+/// The plan that is left where the write of what goes with this status fails.
+fn kept(alloc: Global, status: Status, plan: Plan) -> Plan
+    ensures { IsKept status plan result }
+{
+    if status == Status::Done {
+        plan
+    } else {
+        no_plan(alloc)
     }
 }

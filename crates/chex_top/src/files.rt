@@ -13,7 +13,7 @@ ghost use Rattle.chex_top.specs.Words as asked;
 ghost use Rattle.chex_top.specs.Budgets.{IsStore};
 ghost use Rattle.plan_type.specs.Budget.{IsBudget};
 
-use crate::asked::{Asked, asked};
+use crate::asked::{Asked, read_asked};
 use crate::budget::budget_of;
 use crate::refusal::{Refusal, bad_file};
 use crate::version::{Job, Version, Versions};
@@ -86,7 +86,7 @@ pub fn read_job<L: Library>(
     ensures usage { asked.asked_of (map string_bytes words.now) ≡ None → (result ≡ Err Refusal.Usage) ⊎ (result ≡ Err Refusal.NoMemory) }
     ensures small { IfOk result spec.IsSmallJob }
 {
-    match asked(alloc, words) {
+    match read_asked(alloc, words) {
         Ok(Asked::Solo(words)) => solo(alloc, library, &words),
         Ok(Asked::Run(words)) => run(alloc, library, &words),
         Err(refusal) => Err(refusal),
