@@ -1,6 +1,6 @@
 use Rattle.std.proofs.Common.{◌≡◌, ◌+◌, length, refl, arith}
 use Rattle.audit_run.proofs.FailedLemmas.{failed_all, failed_more}
-use Rattle.audit_run.proofs.auditing.failed.Goals as goal
+use Rattle.audit_run.proofs.auditing.failed_nodes.Goals as goal
 
 pub loop-place-preserved : goal.loop-place-preserved
 loop-place-preserved c =
