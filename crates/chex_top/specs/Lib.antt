@@ -1,5 +1,7 @@
 pub mod Words
 pub mod Refusals
+pub mod Budgets
+pub mod Stopped
 pub mod Reads
 pub mod Files
 pub mod Stages

@@ -5,6 +5,7 @@
 #![tactic(auto)]
 
 mod bad_cell;
+mod budget;
 mod checking;
 mod chex;
 mod command;
@@ -15,6 +16,7 @@ mod known;
 mod nodes;
 mod refusal;
 mod running;
+mod stopped;
 mod version;
 
 pub use chex::{Finish, chex};

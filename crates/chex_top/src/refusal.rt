@@ -100,7 +100,7 @@ fn bad_line(alloc: Global, file: &str, reason: &str) -> Result<String, NoMemory>
     Ok(format!(in alloc; "error: {file}: {reason}\n")?)
 }
 
-fn nodes_line(alloc: Global, count: u32) -> Result<String, NoMemory>
+pub fn nodes_line(alloc: Global, count: u32) -> Result<String, NoMemory>
     ensures { IfOk result (λ line. string_bytes line ≡ spec.nodes_line count) }
 {
     Ok(format!(in alloc; "error: too many nodes: {count}\n")?)
