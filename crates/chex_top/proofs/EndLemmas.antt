@@ -1,5 +1,5 @@
 -- Which ends are due, and what is left where a status is due.
-use Rattle.std.proofs.Common.{◌≡◌, ◌≢◌, ◌⊎◌, ◌≤◌, ◌<◌, ◌+◌, ℕ, Bool, true, false, List, [], ◌++◌, length, map, Option, Some, None, Result, Ok, Err, sym, ◌∙◌, ap, subst, refl, inl, inr, arith, append-nil}
+use Rattle.std.proofs.Common.{◌≡◌, ◌≢◌, ◌⊎◌, ◌≤◌, ◌<◌, ◌+◌, ◌-◌, ◌^◌, min, ℕ, Bool, true, false, List, [], ◌++◌, length, map, Option, Some, None, Result, Ok, Err, sym, ◌∙◌, ap, subst, refl, inl, inr, arith, append-nil}
 use Rattle.std.specs.Prelude.{IfSome, IsSome}
 use Rattle.std.specs.Str.{encode_utf8_all}
 use Rattle.chex_base.specs.Outside.{GrewBy, Rose}
@@ -29,13 +29,15 @@ use Rattle.chex_top.specs.declared.refusal.Refusal.{Refusal}
 use Rattle.chex_top.specs.declared.refusal.Refusal.TheVariants.{Usage, Absent, ReadFailed, BadFile, BadCell, TooManyNodes, TooManyBlocks, NoMemory}
 use Rattle.chex_top.specs.declared.task.Task.{Task}
 use Rattle.chex_top.specs.declared.task.Task.TheVariants as task
-use Rattle.chex_top.specs.Words.{asked_of}
+use Rattle.chex_top.specs.Words.{IsAllowance, asked_of}
 use Rattle.chex_top.specs.Refusals.{file_status, line_of, status_of}
 use Rattle.chex_top.specs.Reads.{FileView, IsCounted}
-use Rattle.chex_top.specs.RunTexts.{numbers_with, run_text, steps_along_all}
+use Rattle.shared_run.specs.Numbers.{steps_along_all}
+use Rattle.shared_run.proofs.AloneLemmas.{steps_all}
+use Rattle.chex_top.specs.RunTexts.{numbers_with, run_text}
 use Rattle.chex_top.specs.Stages.{IsCertain}
 use Rattle.chex_top.specs.Stopped as stopped
-use Rattle.chex_top.specs.Tasks.{due}
+use Rattle.chex_top.specs.Tasks.{AreReady, due}
 use Rattle.chex_top.specs.Ends.{End, Ends, EndsAlone, EndsShared, HasNoPlan, IsBounded, IsCutShort, IsDue, IsNothing, IsRefusal, IsRefused, IsShared, IsStopped, MayStop, StopsWith, Yields}
 use Rattle.chex_top.proofs.OnceLemmas.{due_single}
 
@@ -213,7 +215,7 @@ stop_ends versions budget allowance before stock live done why kernel store stat
 module _ (versions : List Checked) (budget : Budget) (allowance : ℕ) (before stock : Stock) (live : Option MachineState) (done : Ops) (shared : Shared)
     (texts : IsSome before.told → map (written shared.texts) shared.ways ≡ texts_alone versions allowance)
     (many : length (map (written shared.texts) shared.ways) ≡ length versions)
-    (alone : steps_along_all shared.costs shared.ways ≡ steps_of_all versions allowance)
+    (alone : steps_along_all shared.costs shared.ways ≡ steps_of_all versions allowance) (allowed : IsAllowance allowance) (ready : AreReady versions)
     (rows : AreRows versions allowance shared.costs.rows) (least : IsLeast shared.costs budget shared.plan)
     (alike : IsSome before.told → IsAlikeAt (tree_left versions shared.costs.rows) allowance live (ran shared.costs budget (operations_of shared.costs budget shared.plan)).live)
     (held : stock.held ≡ []) (peaked : stock.peak ≡ peak shared.costs budget shared.plan) (bound : IsBounded budget before stock)
@@ -221,9 +223,16 @@ module _ (versions : List Checked) (budget : Budget) (allowance : ℕ) (before s
   abbrev steps : ℕ
   steps = steps_of_all versions allowance + work shared.costs shared.plan
 
+  -- the number that is told of the steps alone is their sum
+  told : min (steps_along_all shared.costs shared.ways) (2 ^ 64 - 1) ≡ steps_of_all versions allowance
+  told =
+      let few = steps_all versions allowance allowed.0 allowed.1 ready.cells in
+      let many = ready.many in
+      min-eq_left (steps_along_all shared.costs shared.ways) (2 ^ 64 - 1) (omega (arith, alone, few, many)) ∙ alone
+
   -- all was done
   done_ends : (code : List ℕ)
-      → code ≡ run_text versions (map (written shared.texts) shared.ways) (numbers_with (length versions) budget (steps_along_all shared.costs shared.ways) shared.costs shared.plan)
+      → code ≡ run_text versions (map (written shared.texts) shared.ways) (numbers_with (length versions) budget (min (steps_along_all shared.costs shared.ways) (2 ^ 64 - 1)) shared.costs shared.plan)
       → IsShared before.told versions budget allowance (end_of ended.Done shared.plan (encode_utf8_all code) steps done live stock)
   done_ends code says = record {
     costs = shared.costs;
@@ -233,7 +242,7 @@ module _ (versions : List Checked) (budget : Budget) (allowance : ℕ) (before s
     many = many;
     alone = texts;
     status = refl;
-    text = ap encode_utf8_all (says ∙ ap (λ n. run_text versions (map (written shared.texts) shared.ways) (numbers_with (length versions) budget n shared.costs shared.plan)) alone);
+    text = ap encode_utf8_all (says ∙ ap (λ n. run_text versions (map (written shared.texts) shared.ways) (numbers_with (length versions) budget n shared.costs shared.plan)) told);
     done = course;
     steps = refl;
     live = λ told. subst (λ (os : Ops). IsAlikeAt (tree_left versions shared.costs.rows) allowance live (ran shared.costs budget os).live) (sym course) (alike told);
@@ -252,7 +261,7 @@ module _ (versions : List Checked) (budget : Budget) (allowance : ℕ) (before s
 
   pub said_ends : (status : Status) (plan : Plan) (code : List ℕ)
       → ((status ≡ ended.Done) × (plan ≡ shared.plan)
-        × (code ≡ run_text versions (map (written shared.texts) shared.ways) (numbers_with (length versions) budget (steps_along_all shared.costs shared.ways) shared.costs shared.plan)))
+        × (code ≡ run_text versions (map (written shared.texts) shared.ways) (numbers_with (length versions) budget (min (steps_along_all shared.costs shared.ways) (2 ^ 64 - 1)) shared.costs shared.plan)))
       ⊎ IsNothing status plan (encode_utf8_all code)
       → EndsShared versions budget allowance before (end_of status plan (encode_utf8_all code) steps done live stock)
   said_ends status plan code (inl h) = (

@@ -9,3 +9,4 @@ pub mod WordLemmas
 pub mod TaskLemmas
 pub mod OnceLemmas
 pub mod EndLemmas
+pub mod AloneLemmas

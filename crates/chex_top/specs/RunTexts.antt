@@ -1,13 +1,12 @@
 -- What is written of a run of versions, in code points.
 use Rattle.std.specs.Prelude.{ℕ, ◌+◌, List, ◌++◌, flat_map, length, map, zip, Option, Some, None}
-use Rattle.std.specs.List.{count_by, sum_by}
 use Rattle.plan_type.specs.declared.budget.Budget.{Budget}
 use Rattle.plan_type.specs.declared.costs.Costs.{Costs}
 use Rattle.plan_type.specs.declared.plan.Plan.{Plan}
-use Rattle.plan_type.specs.Costs.{is_reached, steps_of}
 use Rattle.plan_type.specs.Plan.{peak, work}
 use Rattle.plan_type.specs.Prices.{cost}
 use Rattle.audit_run.specs.Visits.{steps_of_all}
+use Rattle.shared_run.specs.Numbers.{reached}
 use Rattle.chex_report.specs.declared.summaries.Numbers.{Numbers}
 use Rattle.chex_report.specs.Headers.{header_of}
 use Rattle.chex_report.specs.Summaries.{summary_of}
@@ -17,21 +16,19 @@ use Rattle.exec_tree.specs.declared.checked.Checked.{Checked}
 abbrev pub headers_of : List Checked → List (List ℕ)
 headers_of versions = map (λ version. header_of version.name) versions
 
+-- a header, and the text behind it
+abbrev pub headed : List ℕ × List ℕ → List ℕ
+headed version = version.0 ++ version.1
+
 -- each header, and behind it the text at its place
 abbrev pub versions_text : List (List ℕ) → List (List ℕ) → List ℕ
-versions_text headers texts = flat_map (λ version. version.0 ++ version.1) (zip headers texts)
+versions_text headers texts = flat_map headed (zip headers texts)
 
 -- what a run writes: the header and the text of each version in order, and then the summary
 unfoldable pub run_text : List Checked → List (List ℕ) → Numbers → List ℕ
 run_text versions texts numbers = versions_text (headers_of versions) texts ++ summary_of numbers
 
--- SCRATCH of shared_run/specs/Numbers
-abbrev pub reached : Costs → ℕ
-reached costs = count_by (λ row. is_reached row.end) costs.rows
-
-abbrev pub steps_along_all : Costs → List (List ℕ) → ℕ
-steps_along_all costs ways = sum_by (sum_by (steps_of costs)) ways
-
+-- SCRATCH until SAY's
 abbrev pub priced : Costs → Budget → Plan → ℕ → Option ℕ
 priced costs budget plan 0 = None
 priced costs budget plan _ = Some (cost costs budget plan)

@@ -32,7 +32,7 @@ end_name Unreached = codes "unreached"
 -- a node, the field in which two rows of it differ, and both values
 abbrev pub field_line : ℕ → List ℕ → List ℕ → List ℕ → List ℕ
 field_line node name recorded measured =
-    codes "error: node " ++ decimal node ++ codes " " ++ name ++ codes " recorded " ++ recorded ++ codes " measured " ++ measured ++ codes "\n"
+    codes "error: node " ++ (decimal node ++ (codes " " ++ (name ++ (codes " recorded " ++ (recorded ++ (codes " measured " ++ (measured ++ codes "\n")))))))
 
 abbrev pub difference_line : ℕ → Difference → List ℕ
 difference_line node (field.End recorded measured) = field_line node (codes "end") (end_name recorded) (end_name measured)

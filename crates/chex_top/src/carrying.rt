@@ -1,5 +1,5 @@
 //! Carries out what the words and the files call for.
-ghost use Rattle.std.specs.Prelude.{◌≡◌, ◌≤◌, ◌<◌, ◌+◌, ◌⊎◌, ◌^◌, [], None, length, map, Err, Ok};
+ghost use Rattle.std.specs.Prelude.{◌≡◌, ◌≤◌, ◌+◌, ◌-◌, ◌⊎◌, ◌^◌, [], None, length, map, min, Err, Ok};
 ghost use Rattle.std.specs.Str.{encode_utf8_all};
 ghost use Rattle.chex_base.specs.Outside.{Rose};
 ghost use Rattle.star_meaning.specs.Cells as meaning;
@@ -10,7 +10,8 @@ ghost use Rattle.replayer.specs.Listening.{TellsAllBy};
 ghost use Rattle.shared_run.specs.Written.{AreWays, written};
 ghost use Rattle.chex_top.specs.Ends as spec;
 ghost use Rattle.chex_top.specs.Ends.{End, Ends, EndsAlone, EndsShared, HasNoPlan, IsNothing, Leaves, Says, StopsWith};
-ghost use Rattle.chex_top.specs.RunTexts.{numbers_with, run_text, steps_along_all};
+ghost use Rattle.shared_run.specs.Numbers.{steps_along_all};
+ghost use Rattle.chex_top.specs.RunTexts.{numbers_with, run_text};
 ghost use Rattle.chex_top.specs.Tasks.{AreReady, IsReady};
 ghost use Rattle.chex_top.specs.Words.{IsAllowance};
 
@@ -121,11 +122,10 @@ fn said(alloc: Global, versions: &[Checked], budget: &Budget, shared: Shared) ->
     requires budget { IsBudget budget.now }
     requires sound { IsSound shared.costs }
     requires least { IsLeast shared.costs budget.now shared.plan }
-    requires small { steps_along_all shared.costs shared.ways < 2 ^ 64 }
     requires many { length shared.ways ≡ length versions.now }
     requires ways { AreWays (length shared.texts) shared.ways }
     ensures { ((result.status ≡ Status.Done) × (result.plan ≡ shared.plan)
-        × (result.text ≡ run_text versions.now (map (written shared.texts) shared.ways) (numbers_with (length versions.now) budget.now (steps_along_all shared.costs shared.ways) shared.costs shared.plan)))
+        × (result.text ≡ run_text versions.now (map (written shared.texts) shared.ways) (numbers_with (length versions.now) budget.now (min (steps_along_all shared.costs shared.ways) (2 ^ 64 - 1)) shared.costs shared.plan)))
         ⊎ IsNothing result.status result.plan (encode_utf8_all result.text) }
 {
     let numbers = numbers(versions, budget, &shared);

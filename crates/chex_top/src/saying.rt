@@ -1,12 +1,13 @@
 //! SCRATCH: the signatures of what is said.
-ghost use Rattle.std.specs.Prelude.{◌≡◌, ◌≤◌, ◌<◌, ◌^◌, IfOk, OnErr, length, map};
+ghost use Rattle.std.specs.Prelude.{◌≡◌, ◌≤◌, ◌-◌, ◌^◌, IfOk, OnErr, length, map, min};
 ghost use Rattle.std.specs.Str.{encode_utf8_all};
 ghost use Rattle.chex_base.specs.Outside.{Received, Rose};
 ghost use Rattle.plan_type.specs.Budget.{IsBudget};
 ghost use Rattle.plan_type.specs.Costs.{IsSound};
 ghost use Rattle.plan_type.specs.Prices.{IsLeast};
 ghost use Rattle.shared_run.specs.Written.{AreWays, written};
-ghost use Rattle.chex_top.specs.RunTexts.{run_text, numbers_with, steps_along_all};
+ghost use Rattle.shared_run.specs.Numbers.{steps_along_all};
+ghost use Rattle.chex_top.specs.RunTexts.{run_text, numbers_with};
 
 use chex_base::{NoMemory, Sink, Text, WriteFailed};
 use chex_report::Numbers;
@@ -67,8 +68,7 @@ pub fn numbers(versions: &[Checked], budget: &Budget, shared: &Shared) -> Number
     requires budget { IsBudget budget.now }
     requires sound { IsSound shared.now.costs }
     requires least { IsLeast shared.now.costs budget.now shared.now.plan }
-    requires small { steps_along_all shared.now.costs shared.now.ways < 2 ^ 64 }
-    ensures { result ≡ numbers_with (length versions.now) budget.now (steps_along_all shared.now.costs shared.now.ways) shared.now.costs shared.now.plan }
+    ensures { result ≡ numbers_with (length versions.now) budget.now (min (steps_along_all shared.now.costs shared.now.ways) (2 ^ 64 - 1)) shared.now.costs shared.now.plan }
 {
     numbers(versions, budget, shared)
 }
