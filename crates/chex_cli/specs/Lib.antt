@@ -1,12 +1,1 @@
-pub mod Words
-pub mod Refusals
-pub mod Reads
-pub mod Files
-pub mod Stages
-pub mod Cells
-pub mod BadCells
-pub mod Jobs
-pub mod Nodes
-pub mod Texts
-pub mod Ends
 pub mod Exits

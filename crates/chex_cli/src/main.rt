@@ -6,21 +6,8 @@ ghost use Rattle.std.specs.IoError.{error_kind};
 ghost use Rattle.std.specs.Process.{exit_status};
 ghost use Rattle.chex_cli.specs.Exits.{IsExit};
 
-mod bad_cell;
-mod checking;
-mod chex;
-mod command;
-mod decide;
-mod decision;
-mod files;
-mod known;
-mod nodes;
-mod refusal;
-mod running;
-mod version;
-
-use chex::{chex, exit_code};
 use chex_base::{FolderLibrary, OutSink};
+use chex_top::chex;
 use std::io::ErrorKind;
 use std::process::ExitCode;
 use std::{env, io};
@@ -47,7 +34,7 @@ fn called(rt: &HostRuntime, words: &[String]) -> ExitCode
     let mut library = FolderLibrary::new(rt);
     let mut out = OutSink::new(io::writer(rt));
     let finish = chex(rt.alloc(), words, &mut library, &mut out);
-    exit_code(&finish)
+    ExitCode::from(finish.status.number())
 }
 
 fn unread(kind: ErrorKind) -> ExitCode

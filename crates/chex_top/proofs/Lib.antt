@@ -1,0 +1,13 @@
+pub mod ReadLemmas
+pub mod ZipLemmas
+pub mod FirstLemmas
+pub mod RefusedLemmas
+pub mod CellLemmas
+pub mod KnownLemmas
+pub mod NodeLemmas
+pub mod WordLemmas
+pub mod TaskLemmas
+pub mod OnceLemmas
+pub mod EndLemmas
+pub mod AloneLemmas
+pub mod WrittenLemmas

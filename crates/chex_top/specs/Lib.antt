@@ -1,0 +1,14 @@
+pub mod Budgets
+pub mod Words
+pub mod Refusals
+pub mod Stopped
+pub mod Reads
+pub mod Files
+pub mod Stages
+pub mod Cells
+pub mod BadCells
+pub mod Jobs
+pub mod Nodes
+pub mod Tasks
+pub mod RunTexts
+pub mod Ends
