@@ -1,5 +1,6 @@
 //! Which listeners there are, and what they report.
-ghost use Rattle.std.specs.Prelude.{◌≡◌, ◌↔◌, true, map, string_bytes, Contains};
+ghost use Rattle.std.specs.Prelude.{◌≡◌, map, string_bytes, bytes_eq};
+ghost use Rattle.std.specs.List.{list_any};
 
 use chex_base::NoMemory;
 use std::alloc::Global;
@@ -7,10 +8,10 @@ use tap_list::Tap;
 
 /// Whether this word is among the words.
 pub fn stands(words: &[String], word: &str) -> bool
-    ensures { (result ≡ true) ↔ Contains (map string_bytes words.now) word.now }
+    ensures { result ≡ list_any (bytes_eq word.now) (map string_bytes words.now) }
 {
     for other in words {
-        if other.as_str() == word {
+        if word == other.as_str() {
             return true;
         }
     }

@@ -1,6 +1,7 @@
 //! The commands as a person is told of them: texts alone.
 
 /// A command.
+#[derive(Clone, Copy)]
 pub struct Help {
     pub name: &'static str,
     /// Its words after the name.
@@ -22,6 +23,7 @@ pub enum Form {
 }
 
 /// An argument of a command.
+#[derive(Clone, Copy)]
 pub struct Argument {
     pub form: Form,
     /// Its name, of an option without its dashes.
