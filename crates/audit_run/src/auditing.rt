@@ -51,7 +51,7 @@ pub fn audit<K: Kernel>(
     for place in 0..versions.len() {
         add_version(alloc, forest, versions, place, kernel, allowance, &mut rows)?;
     }
-    let nodes = failed(alloc, rows.as_slice())?;
+    let nodes = failed_nodes(alloc, rows.as_slice())?;
     forest.cut(nodes.as_slice());
     Ok(Costs {
         rows: Items::from_vec(rows),
@@ -73,8 +73,8 @@ fn load<K: Kernel>(alloc: Global, forest: &Forest, kernel: &mut K) -> Result<(),
     }
 }
 
-/// The nodes that failed, in rising order.
-fn failed(alloc: Global, rows: &[Row]) -> Result<Vec<NodeId>, NoMemory>
+/// The numbers of the nodes that failed by their rows, in rising order; row i is that of node i + 1.
+pub fn failed_nodes(alloc: Global, rows: &[Row]) -> Result<Vec<NodeId>, NoMemory>
     requires { length rows.now ≤ 512 }
     ensures { IfOk result (λ nodes. nodes.items ≡ failed_nodes rows.now) }
 {

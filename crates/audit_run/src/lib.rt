@@ -12,5 +12,5 @@ mod fault;
 mod rows;
 mod ways;
 
-pub use auditing::audit;
+pub use auditing::{audit, failed_nodes};
 pub use fault::AuditFault;

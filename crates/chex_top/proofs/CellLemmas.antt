@@ -31,7 +31,7 @@ cells_once (s ∷ ss) (x ∷ xs) (y ∷ ys) h k = ap (λ z. z ∷ xs) (cell_once
 abbrev checked_with : List ℕ → List CellParts → List (List ℕ × Input) → Checked
 checked_with name cells inputs = record { name = name; cells = cells; inputs = inputs }
 
-checked_once : (version : Version) (a b : Checked) → IsChecked version a → IsChecked version b → a ≡ b
+pub checked_once : (version : Version) (a b : Checked) → IsChecked version a → IsChecked version b → a ≡ b
 checked_once version a b h k =
     ap (λ x. checked_with x a.cells a.inputs) (h.0 ∙ sym k.0) ∙ ap (λ x. checked_with b.name x a.inputs) (cells_once version.sources a.cells b.cells h.2 k.2)
     ∙ ap (checked_with b.name b.cells) (h.1 ∙ sym k.1)

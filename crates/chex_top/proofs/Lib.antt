@@ -4,7 +4,9 @@ pub mod FirstLemmas
 pub mod RefusedLemmas
 pub mod CellLemmas
 pub mod KnownLemmas
-pub mod TextLemmas
 pub mod NodeLemmas
+pub mod WordLemmas
+pub mod TaskLemmas
 pub mod OnceLemmas
 pub mod EndLemmas
+pub mod AloneLemmas

@@ -15,7 +15,7 @@ use Rattle.nb_reader.specs.Reading.{IsReading, read_as, value_of}
 use Rattle.nb_reader.specs.Manifest.{distinct, limited_versions, manifest_in, manifest_of, manifest_or_refusal, manifest_or_repeated, repeated_name, version_of, versions_of, versions_or_refusal, with_version}
 use Rattle.exec_tree.specs.declared.checked.Checked.{Checked}
 use Rattle.exec_tree.specs.Prefixes.{prefixes}
-use Rattle.chex_top.specs.declared.refusal.Refusal.TheVariants.{Usage, Absent, ReadFailed, BadFile, BadCell, TooManyNodes, NoMemory}
+use Rattle.chex_top.specs.declared.refusal.Refusal.TheVariants.{Usage, Absent, ReadFailed, BadFile, BadCell, TooManyNodes, TooManyBlocks, NoMemory}
 use Rattle.chex_top.specs.declared.version.Version.{Version}
 use Rattle.chex_top.specs.Jobs.{AreChecked, AreSmall, IsChecked}
 use Rattle.chex_top.specs.Nodes.{nodes}
@@ -90,6 +90,7 @@ nodes_single versions (Ok a) (Err (Absent file)) h k sure certain = absurd k
 nodes_single versions (Ok a) (Err (ReadFailed file)) h k sure certain = absurd k
 nodes_single versions (Ok a) (Err (BadFile file fault)) h k sure certain = absurd k
 nodes_single versions (Ok a) (Err (BadCell bad)) h k sure certain = absurd k
+nodes_single versions (Ok a) (Err (TooManyBlocks count)) h k sure certain = absurd k
 nodes_single versions (Err (TooManyNodes count)) (Ok b) h k sure certain = absurd (not_both (length (prefixes versions)) count k.1 h.0 h.1)
 nodes_single versions (Err (TooManyNodes a)) (Err (TooManyNodes b)) h k sure certain = ap (λ count. Err (TooManyNodes count)) (h.0 ∙ sym k.0)
 nodes_single versions (Err (TooManyNodes count)) (Err NoMemory) h k sure certain = absurd (certain.0 refl)
@@ -98,9 +99,11 @@ nodes_single versions (Err (TooManyNodes count)) (Err (Absent file)) h k sure ce
 nodes_single versions (Err (TooManyNodes count)) (Err (ReadFailed file)) h k sure certain = absurd k
 nodes_single versions (Err (TooManyNodes count)) (Err (BadFile file fault)) h k sure certain = absurd k
 nodes_single versions (Err (TooManyNodes count)) (Err (BadCell bad)) h k sure certain = absurd k
+nodes_single versions (Err (TooManyNodes count)) (Err (TooManyBlocks blocks)) h k sure certain = absurd k
 nodes_single versions (Err NoMemory) other h k sure certain = absurd (sure.0 refl)
 nodes_single versions (Err Usage) other h k sure certain = absurd h
 nodes_single versions (Err (Absent file)) other h k sure certain = absurd h
 nodes_single versions (Err (ReadFailed file)) other h k sure certain = absurd h
 nodes_single versions (Err (BadFile file fault)) other h k sure certain = absurd h
 nodes_single versions (Err (BadCell bad)) other h k sure certain = absurd h
+nodes_single versions (Err (TooManyBlocks count)) other h k sure certain = absurd h

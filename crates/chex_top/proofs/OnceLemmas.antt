@@ -6,20 +6,23 @@ use Rattle.chex_top.specs.declared.refusal.Refusal.{Refusal}
 use Rattle.chex_top.specs.declared.refusal.Refusal.TheVariants.{Usage, Absent, ReadFailed, BadFile, NoMemory}
 use Rattle.chex_top.specs.declared.refusal.Refusal.TheVariants as refusal
 use Rattle.chex_top.specs.declared.version.Job.{Job}
+use Rattle.chex_top.specs.declared.version.Job.TheVariants as job
+use Rattle.chex_top.specs.declared.task.Task.{Task}
+use Rattle.chex_top.specs.declared.task.Task.TheVariants as task
+use Rattle.plan_type.specs.declared.budget.Budget.{Budget}
 use Rattle.chex_top.specs.declared.version.Version.{Version}
 use Rattle.exec_tree.specs.declared.checked.Checked.{Checked}
 use Rattle.chex_top.specs.Reads.{FileView, Read, Answers}
 use Rattle.chex_top.specs.Files.{job_at}
 use Rattle.chex_top.specs.Stages.{Stage, pure, of, ◌>>=◌, IsCertain, IsSingle}
 use Rattle.cell_reader.specs.Cells.{IsCellOf, IsWrong}
-use Rattle.chex_top.specs.Jobs.{IsChecked, IsBadIn, IsFirstBad, checked}
+use Rattle.chex_top.specs.Jobs.{IsChecked, IsBadIn, IsFirstBad, checked, checked_one}
 use Rattle.chex_top.specs.Nodes.{nodes}
-use Rattle.chex_top.specs.Texts.{job_text}
-use Rattle.chex_top.specs.Ends.{due, job_due, most_steps}
+use Rattle.chex_top.specs.Tasks.{alone_task, due, shared_task, task_of}
 use Rattle.chex_top.proofs.FirstLemmas.{first_once}
 use Rattle.cell_reader.proofs.CellLemmas.{cell_apart}
 use Rattle.cell_reader.proofs.WrongLemmas.{wrong_once}
-use Rattle.chex_top.proofs.CellLemmas.{version_apart, bad_apart, all_checked_once}
+use Rattle.chex_top.proofs.CellLemmas.{version_apart, bad_apart, checked_once, all_checked_once}
 use Rattle.chex_top.proofs.NodeLemmas.{nodes_single}
 
 -- ---- the first cell that is refused
@@ -63,6 +66,7 @@ answer_is read (Err (ReadFailed file)) h sure = absurd (sure.1 file refl)
 answer_is read (Err (BadFile file fault)) h sure = h
 answer_is read (Err (refusal.BadCell bad)) h sure = h
 answer_is read (Err (refusal.TooManyNodes count)) h sure = h
+answer_is read (Err (refusal.TooManyBlocks count)) h sure = h
 answer_is read (Err NoMemory) h sure = absurd (sure.0 refl)
 
 pub of_single : {A : Type 0} (read : Read A) → IsSingle (of read)
@@ -105,6 +109,7 @@ checked_single versions (Ok a) (Err (Absent file)) h k sure certain = absurd k
 checked_single versions (Ok a) (Err (ReadFailed file)) h k sure certain = absurd k
 checked_single versions (Ok a) (Err (BadFile file fault)) h k sure certain = absurd k
 checked_single versions (Ok a) (Err (refusal.TooManyNodes count)) h k sure certain = absurd k
+checked_single versions (Ok a) (Err (refusal.TooManyBlocks count)) h k sure certain = absurd k
 checked_single versions (Err (refusal.BadCell a)) (Ok all) h k sure certain = absurd (bad_apart versions all a k h)
 checked_single versions (Err (refusal.BadCell a)) (Err (refusal.BadCell b)) h k sure certain = ap (λ bad. Err (refusal.BadCell bad)) (first_bad_once versions a b h k)
 checked_single versions (Err (refusal.BadCell a)) (Err NoMemory) h k sure certain = absurd (certain.0 refl)
@@ -113,17 +118,56 @@ checked_single versions (Err (refusal.BadCell a)) (Err (Absent file)) h k sure c
 checked_single versions (Err (refusal.BadCell a)) (Err (ReadFailed file)) h k sure certain = absurd k
 checked_single versions (Err (refusal.BadCell a)) (Err (BadFile file fault)) h k sure certain = absurd k
 checked_single versions (Err (refusal.BadCell a)) (Err (refusal.TooManyNodes count)) h k sure certain = absurd k
+checked_single versions (Err (refusal.BadCell a)) (Err (refusal.TooManyBlocks count)) h k sure certain = absurd k
 checked_single versions (Err NoMemory) other h k sure certain = absurd (sure.0 refl)
 checked_single versions (Err Usage) other h k sure certain = absurd h
 checked_single versions (Err (Absent file)) other h k sure certain = absurd h
 checked_single versions (Err (ReadFailed file)) other h k sure certain = absurd h
 checked_single versions (Err (BadFile file fault)) other h k sure certain = absurd h
 checked_single versions (Err (refusal.TooManyNodes count)) other h k sure certain = absurd h
+checked_single versions (Err (refusal.TooManyBlocks count)) other h k sure certain = absurd h
 
-text_single : (job : Job) (versions : List Checked) → IsSingle (nodes versions >>= (λ tree. pure (job_text job.headed most_steps versions)))
-text_single job versions = next_single (nodes versions) (λ tree. pure (job_text job.headed most_steps versions)) (nodes_single versions) (λ tree. pure_single (job_text job.headed most_steps versions))
+one_single : (version : Version) → IsSingle (checked_one version)
+one_single version (Ok a) (Ok b) h k sure certain = ap Ok (checked_once version a b h k)
+one_single version (Ok a) (Err (refusal.BadCell bad)) h k sure certain = absurd (version_apart bad version a h k)
+one_single version (Ok a) (Err NoMemory) h k sure certain = absurd (certain.0 refl)
+one_single version (Ok a) (Err Usage) h k sure certain = absurd k
+one_single version (Ok a) (Err (Absent file)) h k sure certain = absurd k
+one_single version (Ok a) (Err (ReadFailed file)) h k sure certain = absurd k
+one_single version (Ok a) (Err (BadFile file fault)) h k sure certain = absurd k
+one_single version (Ok a) (Err (refusal.TooManyNodes count)) h k sure certain = absurd k
+one_single version (Ok a) (Err (refusal.TooManyBlocks count)) h k sure certain = absurd k
+one_single version (Err (refusal.BadCell a)) (Ok all) h k sure certain = absurd (version_apart a version all k h)
+one_single version (Err (refusal.BadCell a)) (Err (refusal.BadCell b)) h k sure certain = ap (λ bad. Err (refusal.BadCell bad)) (bad_in_once version a b h k)
+one_single version (Err (refusal.BadCell a)) (Err NoMemory) h k sure certain = absurd (certain.0 refl)
+one_single version (Err (refusal.BadCell a)) (Err Usage) h k sure certain = absurd k
+one_single version (Err (refusal.BadCell a)) (Err (Absent file)) h k sure certain = absurd k
+one_single version (Err (refusal.BadCell a)) (Err (ReadFailed file)) h k sure certain = absurd k
+one_single version (Err (refusal.BadCell a)) (Err (BadFile file fault)) h k sure certain = absurd k
+one_single version (Err (refusal.BadCell a)) (Err (refusal.TooManyNodes count)) h k sure certain = absurd k
+one_single version (Err (refusal.BadCell a)) (Err (refusal.TooManyBlocks count)) h k sure certain = absurd k
+one_single version (Err NoMemory) other h k sure certain = absurd (sure.0 refl)
+one_single version (Err Usage) other h k sure certain = absurd h
+one_single version (Err (Absent file)) other h k sure certain = absurd h
+one_single version (Err (ReadFailed file)) other h k sure certain = absurd h
+one_single version (Err (BadFile file fault)) other h k sure certain = absurd h
+one_single version (Err (refusal.TooManyNodes count)) other h k sure certain = absurd h
+one_single version (Err (refusal.TooManyBlocks count)) other h k sure certain = absurd h
+
+alone_single : (version : Version) (steps : ℕ) → IsSingle (alone_task version steps)
+alone_single version steps = next_single (checked_one version) (λ one. pure (task.Alone one steps)) (one_single version) (λ one. pure_single (task.Alone one steps))
+
+nodes_next : (budget : Budget) (steps : ℕ) (all : List Checked) → IsSingle (nodes all >>= (λ tree. pure (task.Shared all budget steps)))
+nodes_next budget steps all = next_single (nodes all) (λ tree. pure (task.Shared all budget steps)) (nodes_single all) (λ tree. pure_single (task.Shared all budget steps))
+
+shared_single : (versions : List Version) (budget : Budget) (steps : ℕ) → IsSingle (shared_task versions budget steps)
+shared_single versions budget steps =
+    next_single (checked versions) (λ all. nodes all >>= (λ tree. pure (task.Shared all budget steps))) (checked_single versions) (nodes_next budget steps)
+
+task_single : (j : Job) → IsSingle (task_of j)
+task_single (job.Alone version steps) = alone_single version steps
+task_single (job.Shared versions budget steps) = shared_single versions budget steps
 
 pub due_single : (file : FileView) (words : List (List ℕ)) → IsSingle (due file words)
 unfolding due
-due_single file words = next_single (of (job_at file words)) job_due (of_single (job_at file words))
-    (λ job. next_single (checked job.versions) (λ versions. nodes versions >>= (λ tree. pure (job_text job.headed most_steps versions))) (checked_single job.versions) (text_single job))
+due_single file words = next_single (of (job_at file words)) task_of (of_single (job_at file words)) task_single

@@ -10,12 +10,19 @@ use Rattle.nb_reader.specs.declared.fault.NbFault.TheVariants.{TooMany}
 use Rattle.nb_reader.specs.declared.fault.NbFault.TheVariants as broken
 use Rattle.nb_reader.specs.declared.fault.Counted.TheVariants as count
 use Rattle.chex_top.specs.declared.refusal.Refusal.{Refusal}
-use Rattle.chex_top.specs.declared.refusal.Refusal.TheVariants.{Usage, Absent, ReadFailed, BadFile, BadCell, TooManyNodes, NoMemory}
+use Rattle.chex_top.specs.declared.refusal.Refusal.TheVariants.{Usage, Absent, ReadFailed, BadFile, BadCell, TooManyNodes, TooManyBlocks, NoMemory}
 use Rattle.chex_base.specs.declared.input.Input.{Input}
 use Rattle.nb_reader.specs.declared.manifest.Entry.{Entry}
 use Rattle.chex_top.specs.declared.version.Version.{Version}
 use Rattle.nb_reader.specs.declared.manifest.Manifest.{Manifest}
-use Rattle.chex_top.specs.Files.{notebook_at, manifest_at, inputs_at, version_at, versions_at, solo_job, alone_job, solo_at, alone_at}
+use Rattle.chex_words.specs.declared.command.RunWords.{RunWords}
+use Rattle.chex_words.specs.declared.command.SoloWords.{SoloWords}
+use Rattle.chex_words.specs.declared.command.StoreWords.{StoreWords}
+use Rattle.plan_type.specs.declared.budget.Budget.{Budget}
+use Rattle.chex_top.specs.declared.version.Job.{Job}
+use Rattle.chex_top.specs.declared.version.Job.TheVariants.{Alone, Shared}
+use Rattle.chex_top.specs.Budgets.{budget_of, most_of}
+use Rattle.chex_top.specs.Files.{notebook_at, manifest_at, inputs_at, version_at, versions_at, solo_version, solo_at, budget_in, shared_at, run_at}
 use Rattle.chex_top.specs.Reads.{FileView, Read, pure, goes_on, ◌>>=◌, counted, found, bytes_of, named, Refuses, Answers, IsCounted}
 
 -- files that were looked at before change no answer
@@ -28,6 +35,7 @@ grown looked q (Err (Absent file)) h = h
 grown looked q (Err (BadFile file fault)) h = h
 grown looked q (Err (BadCell bad)) h = h
 grown looked q (Err (TooManyNodes count)) h = h
+grown looked q (Err (TooManyBlocks count)) h = h
 
 pub answers_after : {A B : Type 0} (p : Read A) (f : A → Read B) (x : A) (result : Result B Refusal) → p.1 ≡ Ok x → Answers (f x) result → Answers (p >>= f) result
 answers_after p f x result is h =
@@ -42,6 +50,7 @@ stops looked o f (Absent file) h = ap (λ o. (goes_on looked o f).1) h
 stops looked o f (BadFile file fault) h = ap (λ o. (goes_on looked o f).1) h
 stops looked o f (BadCell bad) h = ap (λ o. (goes_on looked o f).1) h
 stops looked o f (TooManyNodes count) h = ap (λ o. (goes_on looked o f).1) h
+stops looked o f (TooManyBlocks count) h = ap (λ o. (goes_on looked o f).1) h
 
 pub answers_stop : {A B : Type 0} (p : Read A) (f : A → Read B) (r : Refusal) → Refuses p r → Refuses (p >>= f) r
 answers_stop p f r h = stops p.0 p.1 f r h
@@ -147,6 +156,7 @@ counted_later Usage a0 a1 a2 f0 f1 f2 a f h = absurd h
 counted_later (BadFile file fault) a0 a1 a2 f0 f1 f2 a f h = tt
 counted_later (BadCell bad) a0 a1 a2 f0 f1 f2 a f h = tt
 counted_later (TooManyNodes count) a0 a1 a2 f0 f1 f2 a f h = tt
+counted_later (TooManyBlocks count) a0 a1 a2 f0 f1 f2 a f h = tt
 counted_later NoMemory a0 a1 a2 f0 f1 f2 a f h = tt
 
 -- a version: its notebook is refused, its inputs are refused, and both are read
@@ -228,37 +238,76 @@ onward_last (Some t) done place all past so =
     subst (λ (vs : List Version). (versions_at t all).1 ≡ Ok vs) (append-nil done) (so (Ok []) (subst (λ (es : List Entry). (versions_at t es).1 ≡ Ok []) (sym none) refl))
 
 -- a notebook alone
-module _ (view : Option FileView) (name : List ℕ) where
-  pub solo_refused : (r : Refusal) → IfSome view (λ t. Refuses (notebook_at t name) r) → IfSome view (λ t. Refuses (solo_at t name) r)
+module _ (view : Option FileView) (words : SoloWords) where
+  pub solo_refused : (r : Refusal) → IfSome view (λ t. Refuses (notebook_at t words.notebook) r) → IfSome view (λ t. Refuses (solo_at t words) r)
   unfolding solo_at
-  solo_refused r h = view_stops view (λ t. notebook_at t name) (λ _ sources. pure (solo_job sources)) r h
+  solo_refused r h = view_stops view (λ t. notebook_at t words.notebook) (λ _ sources. pure (Alone (solo_version sources) words.steps)) r h
 
-  pub solo_read : (sources : List (List ℕ)) → IfSome view (λ t. (notebook_at t name).1 ≡ Ok sources) → IfSome view (λ t. (solo_at t name).1 ≡ Ok (solo_job sources))
+  pub solo_read : (sources : List (List ℕ)) → IfSome view (λ t. (notebook_at t words.notebook).1 ≡ Ok sources)
+      → IfSome view (λ t. (solo_at t words).1 ≡ Ok (Alone (solo_version sources) words.steps))
   unfolding solo_at
-  solo_read sources h = view_after view view (λ t. notebook_at t name) (λ _ sources. pure (solo_job sources)) sources (Ok (solo_job sources)) refl h (all view)
+  solo_read sources h = view_after view view (λ t. notebook_at t words.notebook) (λ _ sources. pure (Alone (solo_version sources) words.steps)) sources
+      (Ok (Alone (solo_version sources) words.steps)) refl h (all view)
     where
-      all : (o : Option FileView) → IfSome o (λ t. (pure (solo_job sources)).1 ≡ Ok (solo_job sources))
+      all : (o : Option FileView) → IfSome o (λ t. (pure (Alone (solo_version sources) words.steps)).1 ≡ Ok (Alone (solo_version sources) words.steps))
       all None = tt
       all (Some t) = refl
 
-  -- each version of a manifest alone
-  pub alone_refused : (r : Refusal) → IfSome view (λ t. Refuses (manifest_at t name) r) → IfSome view (λ t. Refuses (alone_at t name) r)
-  unfolding alone_at
-  alone_refused r h = view_stops view (λ t. manifest_at t name) (λ t m. versions_at t m.versions >>= (λ versions. pure (alone_job versions))) r h
+-- the versions of a manifest
+module _ (view : Option FileView) (name : List ℕ) (budget : Budget) (steps : ℕ) where
+  pub shared_refused : (r : Refusal) → IfSome view (λ t. Refuses (manifest_at t name) r) → IfSome view (λ t. Refuses (shared_at t name budget steps) r)
+  unfolding shared_at
+  shared_refused r h = view_stops view (λ t. manifest_at t name) (λ t m. versions_at t m.versions >>= (λ versions. pure (Shared versions budget steps))) r h
 
   pub versions_refused : (now : Option FileView) (m : Manifest) (entries : List Entry) (r : Refusal) → now ≡ view → entries ≡ m.versions
-      → IfSome view (λ t. (manifest_at t name).1 ≡ Ok m) → IfSome now (λ t. Refuses (versions_at t entries) r) → IfSome view (λ t. Refuses (alone_at t name) r)
-  unfolding alone_at
-  versions_refused now m entries r same is read h = view_after view now (λ t. manifest_at t name) (λ t m. versions_at t m.versions >>= (λ versions. pure (alone_job versions))) m (Err r) same read
-      (view_stops now (λ t. versions_at t m.versions) (λ _ versions. pure (alone_job versions)) r (subst (λ (es : List Entry). IfSome now (λ t. Refuses (versions_at t es) r)) is h))
+      → IfSome view (λ t. (manifest_at t name).1 ≡ Ok m) → IfSome now (λ t. Refuses (versions_at t entries) r) → IfSome view (λ t. Refuses (shared_at t name budget steps) r)
+  unfolding shared_at
+  versions_refused now m entries r same is read h = view_after view now (λ t. manifest_at t name) (λ t m. versions_at t m.versions >>= (λ versions. pure (Shared versions budget steps))) m (Err r) same read
+      (view_stops now (λ t. versions_at t m.versions) (λ _ versions. pure (Shared versions budget steps)) r (subst (λ (es : List Entry). IfSome now (λ t. Refuses (versions_at t es) r)) is h))
 
   pub versions_read : (now : Option FileView) (m : Manifest) (entries : List Entry) (versions : List Version) → now ≡ view → entries ≡ m.versions
-      → IfSome view (λ t. (manifest_at t name).1 ≡ Ok m) → IfSome now (λ t. (versions_at t entries).1 ≡ Ok versions) → IfSome view (λ t. (alone_at t name).1 ≡ Ok (alone_job versions))
-  unfolding alone_at
-  versions_read now m entries versions same is read h = view_after view now (λ t. manifest_at t name) (λ t m. versions_at t m.versions >>= (λ versions. pure (alone_job versions))) m (Ok (alone_job versions)) same read
-      (view_after now now (λ t. versions_at t m.versions) (λ _ versions. pure (alone_job versions)) versions (Ok (alone_job versions)) refl
+      → IfSome view (λ t. (manifest_at t name).1 ≡ Ok m) → IfSome now (λ t. (versions_at t entries).1 ≡ Ok versions)
+      → IfSome view (λ t. (shared_at t name budget steps).1 ≡ Ok (Shared versions budget steps))
+  unfolding shared_at
+  versions_read now m entries versions same is read h = view_after view now (λ t. manifest_at t name) (λ t m. versions_at t m.versions >>= (λ versions. pure (Shared versions budget steps))) m
+      (Ok (Shared versions budget steps)) same read
+      (view_after now now (λ t. versions_at t m.versions) (λ _ versions. pure (Shared versions budget steps)) versions (Ok (Shared versions budget steps)) refl
       (subst (λ (es : List Entry). IfSome now (λ t. (versions_at t es).1 ≡ Ok versions)) is h) (all now))
     where
-      all : (o : Option FileView) → IfSome o (λ t. (pure (alone_job versions)).1 ≡ Ok (alone_job versions))
+      all : (o : Option FileView) → IfSome o (λ t. (pure (Shared versions budget steps)).1 ≡ Ok (Shared versions budget steps))
       all None = tt
       all (Some t) = refl
+
+-- a budget is refused for its blocks alone
+budget_either : (words : StoreWords) (r : Refusal) → Err r ≡ budget_in words → r ≡ TooManyBlocks (most_of words)
+unfolding budget_in
+budget_either words r h = by (nat_le (most_of words) 1024) h
+  where
+    by : (b : Bool) → ◌≡◌ {A = Result Budget Refusal} (Err r) (if b then Ok (budget_of words) else Err (TooManyBlocks (most_of words))) → r ≡ TooManyBlocks (most_of words)
+    by true k = cc
+    by false k = cc
+
+-- the budget is looked at first
+pub run_read : (view : Option FileView) (words : RunWords) (budget : Budget) (result : Result Job Refusal) → Ok budget ≡ budget_in words.store
+    → IfSome view (λ t. Answers (shared_at t words.manifest budget words.steps) result) → IfSome view (λ t. Answers (run_at t words) result)
+unfolding run_at
+run_read view words budget result is h = view_after view view (λ t. ([], budget_in words.store)) (λ t budget. shared_at t words.manifest budget words.steps) budget result refl (all view) h
+  where
+    all : (o : Option FileView) → IfSome o (λ t. budget_in words.store ≡ Ok budget)
+    all None = tt
+    all (Some t) = sym is
+
+pub run_refused : (view : Option FileView) (words : RunWords) (r : Refusal) → Err r ≡ budget_in words.store → IfSome view (λ t. Refuses (run_at t words) r)
+unfolding run_at
+run_refused None words r is = tt
+run_refused (Some t) words r is = answers_stop ([], budget_in words.store) (λ budget. shared_at t words.manifest budget words.steps) r (refuses r is)
+  where
+    refuses : (r : Refusal) → Err r ≡ budget_in words.store → Refuses ([], budget_in words.store) r
+    refuses NoMemory h = tt
+    refuses (ReadFailed file) h = let other : ReadFailed file ≡ TooManyBlocks (most_of words.store) = budget_either words.store (ReadFailed file) h in cc
+    refuses Usage h = sym h
+    refuses (Absent file) h = sym h
+    refuses (BadFile file fault) h = sym h
+    refuses (BadCell bad) h = sym h
+    refuses (TooManyNodes count) h = sym h
+    refuses (TooManyBlocks count) h = sym h

@@ -21,6 +21,7 @@ first_refused versions before after made version (refusal.Absent file) whole fin
 first_refused versions before after made version (refusal.ReadFailed file) whole fine wrong = absurd wrong
 first_refused versions before after made version (refusal.BadFile file fault) whole fine wrong = absurd wrong
 first_refused versions before after made version (refusal.TooManyNodes count) whole fine wrong = absurd wrong
+first_refused versions before after made version (refusal.TooManyBlocks count) whole fine wrong = absurd wrong
 
 -- ---- errors
 

@@ -1,5 +1,5 @@
 -- What the words and the files call for, before any cell is looked at.
-use Rattle.std.specs.Prelude.{ℕ, true, false, List, [], ◌∷◌, Option, Some, None, Result, Err, codes}
+use Rattle.std.specs.Prelude.{◌≤◌, ℕ, nat_le, List, [], ◌∷◌, Option, Some, None, Result, Ok, Err, codes, length, if◌then◌else◌}
 use Rattle.std.specs.Str.{chars}
 use Rattle.chex_base.specs.declared.input.Input.{Input}
 use Rattle.nb_reader.specs.declared.fault.NbFault.{NbFault}
@@ -8,13 +8,22 @@ use Rattle.nb_reader.specs.declared.manifest.Manifest.{Manifest}
 use Rattle.nb_reader.specs.Notebook.{notebook_of}
 use Rattle.nb_reader.specs.Manifest.{manifest_of}
 use Rattle.nb_reader.specs.Inputs.{inputs_file_of}
-use Rattle.chex_top.specs.declared.command.Command.{Command}
-use Rattle.chex_top.specs.declared.command.Command.TheVariants.{Solo, Alone}
+use Rattle.chex_words.specs.declared.command.RunWords.{RunWords}
+use Rattle.chex_words.specs.declared.command.SoloWords.{SoloWords}
+use Rattle.chex_words.specs.declared.command.StoreWords.{StoreWords}
+use Rattle.plan_type.specs.Budget.{IsBudget}
+use Rattle.plan_type.specs.declared.budget.Budget.{Budget}
+use Rattle.chex_top.specs.declared.asked.Asked.{Asked}
+use Rattle.chex_top.specs.declared.asked.Asked.TheVariants as asked
 use Rattle.chex_top.specs.declared.version.Version.{Version}
 use Rattle.chex_top.specs.declared.version.Job.{Job}
-use Rattle.chex_top.specs.declared.refusal.Refusal.TheVariants.{Usage}
+use Rattle.chex_top.specs.declared.version.Job.TheVariants.{Alone, Shared}
+use Rattle.chex_top.specs.declared.refusal.Refusal.{Refusal}
+use Rattle.chex_top.specs.declared.refusal.Refusal.TheVariants.{Usage, TooManyBlocks}
+use Rattle.chex_top.specs.Budgets.{budget_of, most_of}
+use Rattle.chex_top.specs.Jobs.{AreSmall, IsSmall}
 use Rattle.chex_top.specs.Reads.{FileView, Read, pure, ◌>>=◌, bytes_of, named}
-use Rattle.chex_top.specs.Words.{command_of}
+use Rattle.chex_top.specs.Words.{IsAllowance, asked_of}
 
 -- what the bytes of the file of this name stand for
 unfoldable pub file_at : {T : Type 0} → (List ℕ → Result T NbFault) → FileView → List ℕ → Read T
@@ -43,27 +52,40 @@ unfoldable pub versions_at : FileView → List Entry → Read (List Version)
 versions_at file [] = pure []
 versions_at file (entry ∷ entries) = version_at file entry >>= (λ version. versions_at file entries >>= (λ versions. pure (version ∷ versions)))
 
--- a notebook alone: one version of the name `solo` without inputs and without a header
-abbrev pub solo_job : List (List ℕ) → Job
-solo_job sources = record { headed = false; versions = record { name = chars (codes "solo"); sources = sources; inputs = [] } ∷ [] }
+-- a notebook alone: one version of the name `solo` without inputs
+abbrev pub solo_version : List (List ℕ) → Version
+solo_version sources = record { name = chars (codes "solo"); sources = sources; inputs = [] }
 
-abbrev pub alone_job : List Version → Job
-alone_job versions = record { headed = true; versions = versions }
+unfoldable pub solo_at : FileView → SoloWords → Read Job
+solo_at file words = notebook_at file words.notebook >>= (λ sources. pure (Alone (solo_version sources) words.steps))
 
-unfoldable pub solo_at : FileView → List ℕ → Read Job
-solo_at file name = notebook_at file name >>= (λ sources. pure (solo_job sources))
+-- the budget, which has at most 1,024 blocks
+unfoldable pub budget_in : StoreWords → Result Budget Refusal
+budget_in words = if nat_le (most_of words) 1024 then Ok (budget_of words) else Err (TooManyBlocks (most_of words))
 
-unfoldable pub alone_at : FileView → List ℕ → Read Job
-alone_at file name = manifest_at file name >>= (λ m. versions_at file m.versions >>= (λ versions. pure (alone_job versions)))
+-- the versions of a manifest, which share their equal beginnings
+unfoldable pub shared_at : FileView → List ℕ → Budget → ℕ → Read Job
+shared_at file name budget steps = manifest_at file name >>= (λ m. versions_at file m.versions >>= (λ versions. pure (Shared versions budget steps)))
 
-abbrev pub command_at : FileView → Command → Read Job
-command_at file (Solo name) = solo_at file name
-command_at file (Alone name) = alone_at file name
+-- its budget is looked at before the manifest
+unfoldable pub run_at : FileView → RunWords → Read Job
+run_at file words = ([], budget_in words.store) >>= (λ budget. shared_at file words.manifest budget words.steps)
 
-abbrev pub words_at : FileView → Option Command → Read Job
+abbrev pub command_at : FileView → Asked → Read Job
+command_at file (asked.Solo words) = solo_at file words
+command_at file (asked.Run words) = run_at file words
+
+abbrev pub words_at : FileView → Option Asked → Read Job
 words_at file None = ([], Err Usage)
 words_at file (Some command) = command_at file command
 
--- what is to run, or the first refusal: the words, the manifest, then each version's notebook and inputs in order
+-- what is to run, or the first refusal: the words, the blocks, the manifest, then each version's notebook and inputs in order
 unfoldable pub job_at : FileView → List (List ℕ) → Read Job
-job_at file words = words_at file (command_of words)
+job_at file words = words_at file (asked_of words)
+
+-- ---- limits
+
+-- what is known of each that was read: at most 64 versions, each of at most 64 short sources, a budget, and an allowance
+abbrev pub IsSmallJob : Job → Type 0
+IsSmallJob (Alone version steps) = IsSmall version × IsAllowance steps
+IsSmallJob (Shared versions budget steps) = AreSmall versions × (length versions ≤ 64) × IsBudget budget × IsAllowance steps

@@ -66,6 +66,12 @@ IsCellRefusal Holds (refusal.Absent file) = ⊥
 IsCellRefusal Holds (refusal.ReadFailed file) = ⊥
 IsCellRefusal Holds (refusal.BadFile file fault) = ⊥
 IsCellRefusal Holds (refusal.TooManyNodes count) = ⊥
+IsCellRefusal Holds (refusal.TooManyBlocks count) = ⊥
+
+-- a version with its cells, or its first cell that is refused
+abbrev pub checked_one : Version → Stage Checked
+checked_one version (Ok one) = IsChecked version one
+checked_one version (Err why) = IsCellRefusal (IsBadIn version) why
 
 -- all versions with their cells, or the first cell that is refused
 abbrev pub checked : List Version → Stage (List Checked)

@@ -1,5 +1,7 @@
+pub mod Budgets
 pub mod Words
 pub mod Refusals
+pub mod Stopped
 pub mod Reads
 pub mod Files
 pub mod Stages
@@ -7,5 +9,6 @@ pub mod Cells
 pub mod BadCells
 pub mod Jobs
 pub mod Nodes
-pub mod Texts
+pub mod Tasks
+pub mod RunTexts
 pub mod Ends

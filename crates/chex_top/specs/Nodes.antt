@@ -16,6 +16,7 @@ IsNodesRefusal versions (refusal.Absent file) = ⊥
 IsNodesRefusal versions (refusal.ReadFailed file) = ⊥
 IsNodesRefusal versions (refusal.BadFile file fault) = ⊥
 IsNodesRefusal versions (refusal.BadCell bad) = ⊥
+IsNodesRefusal versions (refusal.TooManyBlocks count) = ⊥
 
 -- the tree, which has a node for each distinct beginning of the versions and at most 512 of them, or its refusal
 abbrev pub nodes : List Checked → Stage ForestParts

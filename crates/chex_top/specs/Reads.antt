@@ -7,7 +7,7 @@ use Rattle.nb_reader.specs.declared.fault.NbFault.{NbFault}
 use Rattle.nb_reader.specs.declared.fault.NbFault.TheVariants.{TooMany}
 use Rattle.nb_reader.specs.declared.fault.Counted.TheVariants as count
 use Rattle.chex_top.specs.declared.refusal.Refusal.{Refusal}
-use Rattle.chex_top.specs.declared.refusal.Refusal.TheVariants.{Usage, Absent, ReadFailed, BadFile, BadCell, TooManyNodes, NoMemory}
+use Rattle.chex_top.specs.declared.refusal.Refusal.TheVariants.{Usage, Absent, ReadFailed, BadFile, BadCell, TooManyNodes, TooManyBlocks, NoMemory}
 
 -- the bytes of each file, by the bytes of its name
 abbrev pub FileView : Type 0
@@ -54,6 +54,7 @@ Refuses read (Absent file) = read.1 ≡ Err (Absent file)
 Refuses read (BadFile file fault) = read.1 ≡ Err (BadFile file fault)
 Refuses read (BadCell bad) = read.1 ≡ Err (BadCell bad)
 Refuses read (TooManyNodes count) = read.1 ≡ Err (TooManyNodes count)
+Refuses read (TooManyBlocks count) = read.1 ≡ Err (TooManyBlocks count)
 
 -- an answer is what the reading gives
 abbrev pub Answers : {T : Type 0} → Read T → Result T Refusal → Type 0
@@ -68,4 +69,5 @@ IsCounted Usage absences_old absences_new faults_old faults_new = ⊥
 IsCounted (BadFile file fault) absences_old absences_new faults_old faults_new = Unit {0}
 IsCounted (BadCell bad) absences_old absences_new faults_old faults_new = Unit {0}
 IsCounted (TooManyNodes count) absences_old absences_new faults_old faults_new = Unit {0}
+IsCounted (TooManyBlocks count) absences_old absences_new faults_old faults_new = Unit {0}
 IsCounted NoMemory absences_old absences_new faults_old faults_new = Unit {0}

@@ -35,6 +35,7 @@ status_of (ReadFailed file) = status.ReadFault
 status_of (BadFile file fault) = file_status fault
 status_of (refusal.BadCell bad) = status.BadCell
 status_of (refusal.TooManyNodes count) = status.TooMany
+status_of (refusal.TooManyBlocks count) = status.TooMany
 status_of refusal.NoMemory = status.NoMemory
 
 -- what was counted, in words
@@ -84,6 +85,9 @@ bad_line file why = codes "error: " ++ file ++ codes ": " ++ why ++ codes "\n"
 abbrev pub nodes_line : ℕ → List ℕ
 nodes_line count = codes "error: too many nodes: " ++ decimal count ++ codes "\n"
 
+abbrev pub blocks_line : ℕ → List ℕ
+blocks_line count = codes "error: too many blocks: " ++ decimal count ++ codes "\n"
+
 -- the one line that is written for a refusal; nothing is written where memory was wanting
 unfoldable pub line_of : Refusal → List ℕ
 line_of Usage = codes "error: usage\n"
@@ -92,4 +96,5 @@ line_of (ReadFailed file) = failed_line (encode_utf8_all file)
 line_of (BadFile file fault) = bad_line (encode_utf8_all file) (reason fault)
 line_of (refusal.BadCell bad) = cells.line_of bad
 line_of (refusal.TooManyNodes count) = nodes_line count
+line_of (refusal.TooManyBlocks count) = blocks_line count
 line_of refusal.NoMemory = []

@@ -11,6 +11,16 @@ use exec_tree::Checked;
 use star_syntax::Cells;
 use std::alloc::Global;
 
+/// A version with its cells, or its first cell that is refused. Equal sources are looked at once.
+pub fn checked_one(alloc: Global, version: Version) -> Result<Checked, Refusal>
+    requires { spec.IsSmall version }
+    ensures ok { IfOk result (spec.IsChecked version) }
+    ensures refused { IfErr result (spec.IsCellRefusal (spec.IsBadIn version)) }
+{
+    let mut known = Known::new(alloc);
+    checked_version(alloc, &mut known, version)
+}
+
 /// The versions with their cells, or the first cell that is refused: that of the first version with
 /// one, and the first there. Equal sources are looked at once.
 pub fn checked_versions(alloc: Global, versions: Versions) -> Result<Vec<Checked>, Refusal>

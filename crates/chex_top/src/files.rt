@@ -10,14 +10,19 @@ ghost use Rattle.chex_top.specs.Jobs.{AreSmall, AreSources, IsSmall};
 ghost use Rattle.chex_top.specs.Reads as reads;
 ghost use Rattle.chex_top.specs.Reads.{Answers, IsCounted, Refuses};
 ghost use Rattle.chex_top.specs.Words as asked;
+ghost use Rattle.chex_top.specs.Budgets.{IsStore};
+ghost use Rattle.plan_type.specs.Budget.{IsBudget};
 
-use crate::command::{Command, command_of};
+use crate::asked::{Asked, read_asked};
+use crate::budget::budget_of;
 use crate::refusal::{Refusal, bad_file};
 use crate::version::{Job, Version, Versions};
 use chex_base::{Found, Inputs, Library, NoMemory, Text};
+use chex_words::{RunWords, SoloWords, StoreWords};
 use nb_reader::{
     Counted, Entry, Manifest, NbFault, Sources, read_inputs, read_manifest, read_notebook,
 };
+use plan_type::Budget;
 use std::alloc::Global;
 
 /// The most bytes of a file.
@@ -75,81 +80,99 @@ pub fn read_job<L: Library>(
     library: &mut L,
 ) -> Result<Job, Refusal>
     ensures read { IfSome (L.files library.old) (λ view. Answers (spec.job_at view (map string_bytes words.now)) result) }
-    ensures counted { IfErr result (λ r. ((r ≡ Refusal.Usage) × (asked.command_of (map string_bytes words.now) ≡ None)) ⊎ IsCounted r (L.absences library.old) (L.absences library.new) (L.faults library.old) (L.faults library.new)) }
+    ensures counted { IfErr result (λ r. ((r ≡ Refusal.Usage) × (asked.asked_of (map string_bytes words.now) ≡ None)) ⊎ IsCounted r (L.absences library.old) (L.absences library.new) (L.faults library.old) (L.faults library.new)) }
     ensures later { (L.absences library.old ≤ L.absences library.new) × (L.faults library.old ≤ L.faults library.new) }
     ensures files { L.files library.new ≡ L.files library.old }
-    ensures usage { asked.command_of (map string_bytes words.now) ≡ None → (result ≡ Err Refusal.Usage) ⊎ (result ≡ Err Refusal.NoMemory) }
-    ensures short { IfOk result (λ job. AreSmall job.versions) }
-    ensures few { IfOk result (λ job. length job.versions ≤ 64) }
+    ensures usage { asked.asked_of (map string_bytes words.now) ≡ None → (result ≡ Err Refusal.Usage) ⊎ (result ≡ Err Refusal.NoMemory) }
+    ensures small { IfOk result spec.IsSmallJob }
 {
-    match command_of(alloc, words)? {
-        None => Err(Refusal::Usage),
-        Some(command) => command_job(alloc, library, &command),
+    match read_asked(alloc, words) {
+        Ok(Asked::Solo(words)) => solo(alloc, library, &words),
+        Ok(Asked::Run(words)) => run(alloc, library, &words),
+        Err(refusal) => Err(refusal),
     }
 }
 
-/// What a command calls for.
-fn command_job<L: Library>(
-    alloc: Global,
-    library: &mut L,
-    command: &Command,
-) -> Result<Job, Refusal>
-    ensures read { IfSome (L.files library.old) (λ view. Answers (spec.command_at view command.now) result) }
+/// What `solo` calls for: a notebook alone.
+fn solo<L: Library>(alloc: Global, library: &mut L, words: &SoloWords) -> Result<Job, Refusal>
+    requires { asked.IsAllowance words.now.steps }
+    ensures read { IfSome (L.files library.old) (λ view. Answers (spec.solo_at view words.now) result) }
     ensures counted { IfErr result (λ r. IsCounted r (L.absences library.old) (L.absences library.new) (L.faults library.old) (L.faults library.new)) }
     ensures later { (L.absences library.old ≤ L.absences library.new) × (L.faults library.old ≤ L.faults library.new) }
     ensures files { L.files library.new ≡ L.files library.old }
-    ensures short { IfOk result (λ job. AreSmall job.versions) }
-    ensures few { IfOk result (λ job. length job.versions ≤ 64) }
+    ensures small { IfOk result spec.IsSmallJob }
 {
-    match command {
-        Command::Solo(name) => solo(alloc, library, name),
-        Command::Alone(name) => alone(alloc, library, name),
-    }
-}
-
-/// The job of the notebook of this name alone.
-fn solo<L: Library>(alloc: Global, library: &mut L, name: &Text) -> Result<Job, Refusal>
-    ensures read { IfSome (L.files library.old) (λ view. Answers (spec.solo_at view name.now) result) }
-    ensures counted { IfErr result (λ r. IsCounted r (L.absences library.old) (L.absences library.new) (L.faults library.old) (L.faults library.new)) }
-    ensures later { (L.absences library.old ≤ L.absences library.new) × (L.faults library.old ≤ L.faults library.new) }
-    ensures files { L.files library.new ≡ L.files library.old }
-    ensures short { IfOk result (λ job. AreSmall job.versions) }
-    ensures few { IfOk result (λ job. length job.versions ≤ 64) }
-{
-    let sources = file::<L, Sources>(alloc, library, name)?;
-    Ok(solo_job(alloc, sources)?)
-}
-
-/// The job of the versions of the manifest of this name, each alone.
-fn alone<L: Library>(alloc: Global, library: &mut L, name: &Text) -> Result<Job, Refusal>
-    ensures read { IfSome (L.files library.old) (λ view. Answers (spec.alone_at view name.now) result) }
-    ensures counted { IfErr result (λ r. IsCounted r (L.absences library.old) (L.absences library.new) (L.faults library.old) (L.faults library.new)) }
-    ensures later { (L.absences library.old ≤ L.absences library.new) × (L.faults library.old ≤ L.faults library.new) }
-    ensures files { L.files library.new ≡ L.files library.old }
-    ensures short { IfOk result (λ job. AreSmall job.versions) }
-    ensures few { IfOk result (λ job. length job.versions ≤ 64) }
-{
-    let manifest = file::<L, Manifest>(alloc, library, name)?;
-    let versions = all_versions(alloc, library, manifest.versions.as_slice())?;
-    Ok(Job {
-        headed: true,
-        versions,
+    let sources = file::<L, Sources>(alloc, library, &words.notebook)?;
+    let version = solo_version(alloc, sources)?;
+    Ok(Job::Alone {
+        version,
+        steps: words.steps,
     })
 }
 
-/// The job of one notebook alone.
-fn solo_job(alloc: Global, sources: Sources) -> Result<Job, NoMemory>
-    ensures { IfOk result (λ job. job ≡ spec.solo_job sources) }
+/// The version that a notebook is alone.
+fn solo_version(alloc: Global, sources: Sources) -> Result<Version, NoMemory>
+    ensures { IfOk result (λ version. version ≡ spec.solo_version sources) }
 {
-    let mut versions = Versions::new(alloc);
-    versions.add(Version {
+    Ok(Version {
         name: Text::from_str(alloc, "solo")?,
         sources,
         inputs: Inputs::new(alloc),
-    })?;
-    Ok(Job {
-        headed: false,
+    })
+}
+
+/// What `run` calls for: the versions of a manifest, within a budget.
+fn run<L: Library>(alloc: Global, library: &mut L, words: &RunWords) -> Result<Job, Refusal>
+    requires steps { asked.IsAllowance words.now.steps }
+    requires store { IsStore words.now.store }
+    ensures read { IfSome (L.files library.old) (λ view. Answers (spec.run_at view words.now) result) }
+    ensures counted { IfErr result (λ r. IsCounted r (L.absences library.old) (L.absences library.new) (L.faults library.old) (L.faults library.new)) }
+    ensures later { (L.absences library.old ≤ L.absences library.new) × (L.faults library.old ≤ L.faults library.new) }
+    ensures files { L.files library.new ≡ L.files library.old }
+    ensures small { IfOk result spec.IsSmallJob }
+{
+    match budget_in(&words.store) {
+        Ok(budget) => shared(alloc, library, &words.manifest, budget, words.steps),
+        Err(refusal) => Err(refusal),
+    }
+}
+
+/// The budget that the words ask for, if it has at most 1,024 blocks.
+#[tactic(auto, unfolding(crate::specs::Files::budget_in))]
+fn budget_in(words: &StoreWords) -> Result<Budget, Refusal>
+    requires { IsStore words.now }
+    ensures value { result ≡ spec.budget_in words.now }
+    ensures fits { IfOk result IsBudget }
+    ensures counted { IfErr result (λ r. (a0 a1 f0 f1 : _) → IsCounted r a0 a1 f0 f1) }
+{
+    match budget_of(words) {
+        Ok(budget) => Ok(budget),
+        Err(count) => Err(Refusal::TooManyBlocks { count }),
+    }
+}
+
+/// The job of the versions of the manifest of this name, which share their equal beginnings.
+fn shared<L: Library>(
+    alloc: Global,
+    library: &mut L,
+    name: &Text,
+    budget: Budget,
+    steps: u64,
+) -> Result<Job, Refusal>
+    requires budget { IsBudget budget }
+    requires steps { asked.IsAllowance steps }
+    ensures read { IfSome (L.files library.old) (λ view. Answers (spec.shared_at view name.now budget steps) result) }
+    ensures counted { IfErr result (λ r. IsCounted r (L.absences library.old) (L.absences library.new) (L.faults library.old) (L.faults library.new)) }
+    ensures later { (L.absences library.old ≤ L.absences library.new) × (L.faults library.old ≤ L.faults library.new) }
+    ensures files { L.files library.new ≡ L.files library.old }
+    ensures small { IfOk result spec.IsSmallJob }
+{
+    let manifest = file::<L, Manifest>(alloc, library, name)?;
+    let versions = all_versions(alloc, library, manifest.versions.as_slice())?;
+    Ok(Job::Shared {
         versions,
+        budget,
+        steps,
     })
 }
 

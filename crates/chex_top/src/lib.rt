@@ -1,20 +1,27 @@
-//! The call that does what the words of the program ask for, over any files and any output.
+//! The call that does what the words of the program ask for, over any files, any output, any kernel
+//! and any store.
 //!
 //! [`chex`] reads the words, the files, the cells and the tree of versions, one stage after the
-//! other, and writes what is due. `specs/Ends.antt` says what that is.
+//! other, carries out what they call for, and writes what is due. `specs/Tasks.antt` says what is
+//! carried out, and `specs/Ends.antt` how a call ends.
 #![tactic(auto)]
 
+mod alone;
+mod asked;
 mod bad_cell;
+mod budget;
+mod carrying;
 mod checking;
 mod chex;
-mod command;
 mod decide;
 mod decision;
 mod files;
 mod known;
 mod nodes;
 mod refusal;
-mod running;
+mod saying;
+mod stopped;
+mod task;
 mod version;
 
 pub use chex::{Finish, chex};

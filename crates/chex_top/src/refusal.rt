@@ -23,6 +23,8 @@ pub enum Refusal {
     BadCell(BadCell),
     /// The versions have more than 512 distinct beginnings; `count` is their number.
     TooManyNodes { count: u32 },
+    /// The budget has more than 1,024 blocks; `count` is their number.
+    TooManyBlocks { count: u64 },
     /// Memory was wanting.
     NoMemory,
 }
@@ -38,7 +40,7 @@ impl Refusal {
             Refusal::ReadFailed { .. } => Status::ReadFault,
             Refusal::BadFile { fault, .. } => file_status(fault),
             Refusal::BadCell(_) => Status::BadCell,
-            Refusal::TooManyNodes { .. } => Status::TooMany,
+            Refusal::TooManyNodes { .. } | Refusal::TooManyBlocks { .. } => Status::TooMany,
             Refusal::NoMemory => Status::NoMemory,
         }
     }
@@ -58,6 +60,7 @@ impl Refusal {
             }
             Refusal::BadCell(bad) => bad.line(alloc),
             Refusal::TooManyNodes { count } => nodes_line(alloc, *count),
+            Refusal::TooManyBlocks { count } => blocks_line(alloc, *count),
             Refusal::NoMemory => Ok(String::new(alloc)),
         }
     }
@@ -100,10 +103,16 @@ fn bad_line(alloc: Global, file: &str, reason: &str) -> Result<String, NoMemory>
     Ok(format!(in alloc; "error: {file}: {reason}\n")?)
 }
 
-fn nodes_line(alloc: Global, count: u32) -> Result<String, NoMemory>
+pub fn nodes_line(alloc: Global, count: u32) -> Result<String, NoMemory>
     ensures { IfOk result (λ line. string_bytes line ≡ spec.nodes_line count) }
 {
     Ok(format!(in alloc; "error: too many nodes: {count}\n")?)
+}
+
+fn blocks_line(alloc: Global, count: u64) -> Result<String, NoMemory>
+    ensures { IfOk result (λ line. string_bytes line ≡ spec.blocks_line count) }
+{
+    Ok(format!(in alloc; "error: too many blocks: {count}\n")?)
 }
 
 /// What is wrong with a file, in words.

@@ -3,6 +3,7 @@ ghost use Rattle.std.specs.Prelude.{◌≡◌, ◌++◌, ◌∷◌, [], OnOk, On
 
 use chex_base::{Inputs, NoMemory, Text};
 use nb_reader::Sources;
+use plan_type::Budget;
 use std::alloc::Global;
 use std::marker::Model;
 
@@ -57,9 +58,16 @@ impl Versions {
     }
 }
 
-/// What is to run, and whether a header stands before each version's text.
+/// What is to run, as the words and the files say it.
 #[derive(Drop)]
-pub struct Job {
-    pub headed: bool,
-    pub versions: Versions,
+pub enum Job {
+    /// One version alone, with so many steps for each cell.
+    Alone { version: Version, steps: u64 },
+    /// Versions that share their equal beginnings, within a budget, with so many steps for each
+    /// cell.
+    Shared {
+        versions: Versions,
+        budget: Budget,
+        steps: u64,
+    },
 }

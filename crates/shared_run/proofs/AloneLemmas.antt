@@ -1,5 +1,5 @@
 -- What a version's cells do, one after another, where it runs by itself.
-use Rattle.std.proofs.Common.{◌≡◌, ℕ, zero, suc, ◌+◌, ◌*◌, ◌^◌, ◌<◌, ◌≤◌, List, [], ◌∷◌, ◌++◌, length, get_or, take, drop, map, Option, Some, None, slice_get, refl, sym, ap, ◌∙◌, subst, arith}
+use Rattle.std.proofs.Common.{◌≡◌, ℕ, zero, suc, ◌+◌, ◌*◌, ◌^◌, ◌<◌, ◌≤◌, List, [], ◌∷◌, length, get_or, drop, map, Option, Some, None, slice_get, refl, sym, ap, ◌∙◌, subst, arith}
 use Rattle.std.specs.List.{All, Contains, sum}
 use Rattle.std.proofs.lemmas.List.Elements.{All-head, All-tail}
 use Rattle.std.proofs.lemmas.List.Sums.{sum_by-append}
@@ -11,7 +11,7 @@ use Rattle.star_meaning.specs.declared.ran.End.TheVariants as end
 use Rattle.star_meaning.specs.declared.ran.Ran.{Ran}
 use Rattle.star_meaning.specs.Cells.{Shown, if_done, ran, runs, runs_from, steps}
 use Rattle.star_meaning.specs.State.{empty}
-use Rattle.star_meaning.specs.Validity.{MachineState, no_cell, ran_at}
+use Rattle.star_meaning.specs.Validity.{no_cell, ran_at}
 use Rattle.star_meaning.proofs.LeadingLaws.{cells_take_steps}
 use Rattle.exec_tree.specs.declared.checked.Checked.{Checked}
 use Rattle.exec_tree.specs.Keys.{InputMap}
@@ -43,10 +43,10 @@ pub few_results : (cells : List CellParts) (inputs : InputMap) (allowance : ℕ)
 unfolding runs
 few_results cells inputs allowance = few_from empty cells inputs allowance
 
-abbrev total : List Ran → ℕ
+abbrev pub total : List Ran → ℕ
 total rs = sum (map (λ (r : Ran). r.steps) rs)
 
-total_first : (r : Ran) (rs : List Ran) → total (r ∷ rs) ≡ r.steps + total rs
+pub total_first : (r : Ran) (rs : List Ran) → total (r ∷ rs) ≡ r.steps + total rs
 total_first r rs =
     let apart : total (r ∷ rs) ≡ sum (r.steps ∷ []) + total rs = sum_by-append (λ (x : ℕ). x) (r.steps ∷ []) (map (λ (x : Ran). x.steps) rs) in
     let one : sum (r.steps ∷ []) ≡ r.steps = omega arith in
@@ -72,14 +72,14 @@ steps_few v allowance least most short =
     let one : total (runs_from empty v.cells v.inputs allowance) ≤ length v.cells * 1000000 = small_from empty v.cells v.inputs allowance least most in
     omega (arith, one, short)
 
-steps_first : (v : Checked) (vs : List Checked) (allowance : ℕ) → steps_of_all (v ∷ vs) allowance ≡ steps v.cells v.inputs allowance + steps_of_all vs allowance
+pub steps_first : (v : Checked) (vs : List Checked) (allowance : ℕ) → steps_of_all (v ∷ vs) allowance ≡ steps v.cells v.inputs allowance + steps_of_all vs allowance
 steps_first v vs allowance =
     let f : Checked → ℕ = λ version. steps version.cells version.inputs allowance in
     let apart : sum (map f (v ∷ vs)) ≡ sum (f v ∷ []) + sum (map f vs) = sum_by-append (λ (x : ℕ). x) (f v ∷ []) (map f vs) in
     let one : sum (f v ∷ []) ≡ f v = omega arith in
     omega (arith, apart, one)
 
-steps_all : (vs : List Checked) (allowance : ℕ) → 1 ≤ allowance → allowance ≤ 1000000 → All (λ (v : Checked). length v.cells ≤ 64) vs → steps_of_all vs allowance ≤ length vs * 64000000
+pub steps_all : (vs : List Checked) (allowance : ℕ) → 1 ≤ allowance → allowance ≤ 1000000 → All (λ (v : Checked). length v.cells ≤ 64) vs → steps_of_all vs allowance ≤ length vs * 64000000
 steps_all [] allowance least most short = omega arith
 steps_all (v ∷ vs) allowance least most short =
     let own : steps v.cells v.inputs allowance ≤ 64000000 = steps_few v allowance least most (All-head (λ (w : Checked). length w.cells ≤ 64) v vs short) in

@@ -1,17 +1,16 @@
 -- A version's nodes in the tree as rows leave it: how deep they are, the states after them, and what they do.
-use Rattle.std.proofs.Common.{◌≡◌, ℕ, zero, suc, ◌+◌, ◌<◌, ◌≤◌, List, [], ◌∷◌, ◌++◌, length, get_or, take, reverse, Option, Some, refl, sym, ap, ◌∙◌, subst, arith}
+use Rattle.std.proofs.Common.{◌≡◌, ℕ, zero, suc, ◌+◌, ◌<◌, ◌≤◌, List, [], ◌∷◌, ◌++◌, length, get_or, take, reverse, sym, ap, ◌∙◌, arith}
 use Rattle.std.specs.List.{Contains}
 use Rattle.std.proofs.Math.Seq.{take-suc}
 use Rattle.std.proofs.lemmas.List.{reverse-append}
 use Rattle.star_syntax.specs.Cells.{numbered}
 use Rattle.star_syntax.specs.declared.cell.Program.{Program}
-use Rattle.star_meaning.specs.declared.ran.Ran.{Ran}
-use Rattle.star_meaning.specs.Validity.{MachineState, after, nothing_ran, ran_at}
+use Rattle.star_meaning.specs.Validity.{MachineState, after, ran_at}
 use Rattle.plan_type.specs.declared.costs.Costs.{Costs}
 use Rattle.plan_type.specs.Costs.{IsSound}
 use Rattle.exec_tree.specs.declared.checked.Checked.{Checked}
 use Rattle.exec_tree.specs.Keys.{InputMap}
-use Rattle.exec_tree.specs.Forests.{ForestParts, forest_of, inputs_of, parent_of, parents, path}
+use Rattle.exec_tree.specs.Forests.{ForestParts, parent_of, parents, path}
 use Rattle.exec_tree.specs.Prefixes.{prefixes}
 use Rattle.exec_tree.proofs.CutLemmas.{path_none}
 use Rattle.audit_run.specs.Sources.{HaveTheirNames, HaveTheirSources}
@@ -19,14 +18,14 @@ use Rattle.audit_run.specs.Visits.{nodes_of}
 use Rattle.audit_run.specs.Visits as visits
 use Rattle.audit_run.proofs.TreeLemmas.{length-nodes_of, nodes_within, parent_before}
 use Rattle.audit_run.proofs.WayLemmas.{no_prefix}
-use Rattle.replayer.specs.Nodes.{depth_at, inputs_at, program_of, result_at, state_at}
+use Rattle.replayer.specs.Nodes.{depth_at, inputs_at, result_at, state_at}
 use Rattle.replayer.proofs.PathLemmas.{depth_none, depth_step, path_step, result_is, state_none, state_step}
 use Rattle.replayer.proofs.TreeLemmas.{inputs_are}
 use Rattle.shared_run.specs.Trees.{FitTree, tree_left}
 use Rattle.shared_run.specs.Written.{way_to}
 use Rattle.shared_run.proofs.BeginningLemmas.{HasOwner, owner_of}
-use Rattle.shared_run.proofs.LeftLemmas.{count_left, inputs_left, low_left, parent_left, program_left, within_left}
-use Rattle.shared_run.proofs.StateLemmas.{nodes, same_after, same_result, state, state_next}
+use Rattle.shared_run.proofs.LeftLemmas.{inputs_left, low_left, parent_left, program_left, within_left}
+use Rattle.shared_run.proofs.StateLemmas.{same_after, same_result, state, state_next}
 
 module _ (versions : List Checked) (allowance : ℕ) (costs : Costs) (sound : IsSound costs) (fit : FitTree versions costs)
     (sources : HaveTheirSources versions) (names : HaveTheirNames versions) (v : Checked) (there : Contains versions v) where

@@ -1,8 +1,8 @@
 -- The beginnings of versions: which version a node was taken from, and what versions with equal beginnings have in common.
-use Rattle.std.proofs.Common.{◌≡◌, ℕ, zero, suc, ◌+◌, ◌-◌, ◌<◌, ◌≤◌, Bool, true, false, not, List, [], ◌∷◌, ◌++◌, length, get_or, take, map, Some, refl, sym, ap, ◌∙◌, subst, arith, append_assoc}
+use Rattle.std.proofs.Common.{◌≡◌, ℕ, zero, suc, ◌+◌, ◌-◌, ◌<◌, true, List, [], ◌∷◌, ◌++◌, length, get_or, take, map, Some, refl, sym, ap, ◌∙◌, arith, append_assoc}
 use Rattle.std.specs.List.{All, Contains, flat_map}
-use Rattle.std.proofs.lemmas.List.{get_or-map, length-append, length-map, length-take-le}
-use Rattle.std.proofs.lemmas.List.Elements.{All-append, All-contains_itself, All-head, All-nil, All-tail, Contains-get_or}
+use Rattle.std.proofs.lemmas.List.{get_or-map, length-map, length-take-le}
+use Rattle.std.proofs.lemmas.List.Elements.{All-append, All-head, All-nil, All-tail, Contains-get_or}
 use Rattle.star_syntax.specs.CellParts.{CellParts}
 use Rattle.star_syntax.specs.Cells.{numbered}
 use Rattle.exec_tree.specs.declared.checked.Checked.{Checked}
@@ -14,7 +14,6 @@ use Rattle.exec_tree.proofs.CutLemmas.{numbered_at}
 use Rattle.audit_run.specs.Sources.{HaveTheirNames, HaveTheirSources}
 use Rattle.audit_run.specs.Visits.{nodes_of}
 use Rattle.audit_run.proofs.AgreeLemmas.{SameFirst, same_first}
-use Rattle.audit_run.proofs.PlacedLemmas.{StandsAt, prefixes_ordered}
 use Rattle.audit_run.proofs.TreeLemmas.{all_prefixes, has, keys_there, length-prefixes_of, node_at, number_is, place, place_less, prefix_there}
 use Rattle.audit_run.proofs.WayLemmas.{no_prefix}
 

@@ -1,5 +1,5 @@
 -- A state that is alike to itself has a snapshot.
-use Rattle.std.proofs.Common.{◌≡◌, ◌≤◌, ◌<◌, ◌+◌, ℕ, zero, suc, Bool, true, false, List, [], ◌∷◌, ◌++◌, map, length, IsTrue, refl, sym, ap, arith, subst, ◌∙◌, append-nil, length-append}
+use Rattle.std.proofs.Common.{◌≡◌, ◌≤◌, ◌<◌, ◌+◌, ℕ, suc, Bool, true, false, List, [], ◌∷◌, ◌++◌, map, length, IsTrue, refl, sym, ap, arith, subst, ◌∙◌, append-nil, length-append}
 use Rattle.std.proofs.lemmas.Bool.Decides.{Decides-eqb, Decides-int_eq, nat_tests}
 use Rattle.std.proofs.lemmas.Option.{slice_get_within}
 use Rattle.std.proofs.lemmas.Slice.Eq.{bytes_eq-Decides}
@@ -16,7 +16,7 @@ use Rattle.star_meaning.specs.Values.{builtin_name, has}
 use Rattle.star_meaning.specs.Alike.{AlikeMachines, IsAlike, LikeFound, LikeObjects, Pairs, is_pair, like, like_global, like_items, like_layer, like_pair, like_pairs}
 use Rattle.star_meaning.specs.Snapshot.{IsBytesOf, IsCanon, are_met, is_canonical, met_from, object_references, references, state_bytes}
 use Rattle.star_meaning.specs.Validity.{MachineState}
-use Rattle.star_meaning.proofs.AlikeNumbers.{Side, and_both, apart, at_or, back, below_is, both_and, firsts_apart, in_or_first, in_or_second, is_below, itself, not_true, or_either, pairs_below, place, same_number, seconds_apart}
+use Rattle.star_meaning.proofs.AlikeNumbers.{Side, and_both, apart, at_or, back, below_is, both_and, firsts_apart, in_or_first, in_or_second, is_below, itself, not_true, or_either, place, same_number, seconds_apart}
 use Rattle.star_meaning.proofs.AlikeValues.{like_rolled, range_itself}
 use Rattle.star_meaning.proofs.Canonical.{globals_refer, object_refers}
 use Rattle.star_meaning.proofs.MovedValues.{entry_to, layer, moved, object_to, pair_to, rolled}

@@ -1,11 +1,10 @@
 -- How a run of versions goes, from how its replay goes.
-use Rattle.std.proofs.Common.{◌≡◌, ◌<◌, ◌≤◌, ℕ, List, [], ◌∷◌, ◌++◌, length, map, Option, Some, None, IsSome, Result, Ok, Err, IfOk, IfErr, OnOk, inl, inr, refl, sym, ap, ◌∙◌, subst, append-nil}
+use Rattle.std.proofs.Common.{◌≡◌, ◌≤◌, ℕ, List, length, map, Option, Some, None, IsSome, Result, Ok, Err, IfOk, IfErr, OnOk, refl, sym, ap, ◌∙◌, subst}
 use Rattle.star_syntax.specs.declared.cell.Program.{Program}
 use Rattle.plan_type.specs.declared.budget.Budget.{Budget}
 use Rattle.plan_type.specs.declared.costs.Costs.{Costs}
 use Rattle.plan_type.specs.declared.plan.Plan.{Plan}
-use Rattle.plan_type.specs.declared.operations.Operation.TheVariants.{Compute, Restore}
-use Rattle.plan_type.specs.Operations.{Ops, operations_of}
+use Rattle.plan_type.specs.Operations.{operations_of}
 use Rattle.exec_tree.specs.declared.checked.Checked.{Checked}
 use Rattle.exec_tree.specs.Prefixes.{prefixes}
 use Rattle.exec_tree.specs.Forests.{ForestParts, parents}
@@ -14,76 +13,50 @@ use Rattle.audit_run.specs.Visits as visits
 use Rattle.replayer.specs.declared.difference.Difference.{Difference}
 use Rattle.replayer.specs.declared.fault.ReplayFault.{ReplayFault}
 use Rattle.replayer.specs.declared.fault.ReplayFault.TheVariants as cause
-use Rattle.replayer.specs.Faults as replaying
+use Rattle.replayer.specs.Courses.{IsFirstToDiffer}
 use Rattle.replayer.specs.Nodes.{program_of}
 use Rattle.replayer.specs.Trees.{AreRecorded, AreTexts, IsTreeOf}
 use Rattle.shared_run.specs.declared.fault.RunFault.{RunFault}
 use Rattle.shared_run.specs.declared.fault.RunFault.TheVariants as fault
 use Rattle.shared_run.specs.declared.planning.Planned.{Planned}
 use Rattle.shared_run.specs.declared.running.Shared.{Shared}
-use Rattle.shared_run.specs.Courses.{EndsSo, IsBegun, IsCourse, IsCut}
+use Rattle.shared_run.specs.Courses.{EndsSo}
+use Rattle.shared_run.specs.Numbers.{steps_along_all}
 use Rattle.shared_run.specs.Planning.{IsPlanned}
-use Rattle.shared_run.specs.Replaying.{LeavesOff, StopsAt, StopsSo, stopped}
-use Rattle.shared_run.specs.Trees.{FitTree, tree_left}
+use Rattle.shared_run.specs.Replaying.{StopsSo, stopped}
 use Rattle.shared_run.specs.Written.{AreWays, texts_alone, way_to, written}
-use Rattle.shared_run.proofs.LeftLemmas.{left_is_tree, program_left}
+use Rattle.shared_run.proofs.LeftLemmas.{left_is_tree, program_left, ways_many}
+use Rattle.shared_run.proofs.NumberLemmas.{all_steps}
 use Rattle.shared_run.proofs.RecordLemmas.{rows_fit, rows_recorded}
+use Rattle.shared_run.proofs.SameLemmas.{never_differs}
 use Rattle.shared_run.proofs.TextLemmas.{all_texts, all_ways}
 
 -- ---- a replay that stopped
 
-pub stops_of : (kernel store silent : Type 0) (plan : Plan) (e : ReplayFault) → (e ≡ cause.KernelFailed → kernel) → (e ≡ cause.StoreFailed → store) → ((v : ℕ) → e ≡ cause.Damaged v → silent)
-    → ((v : ℕ) (d : Difference) → e ≡ cause.Differs v d → silent) → StopsSo kernel store silent plan (stopped plan e)
-stops_of kernel store silent plan cause.KernelFailed k s damaged differs = k refl
-stops_of kernel store silent plan cause.StoreFailed k s damaged differs = s refl
-stops_of kernel store silent plan (cause.Damaged v) k s damaged differs = damaged v refl
-stops_of kernel store silent plan (cause.Differs v d) k s damaged differs = (differs v d refl, refl)
-stops_of kernel store silent plan cause.NoMemory k s damaged differs = tt
-
-pub leaves_of : (plan : Plan) (e : ReplayFault) (rest : Ops) → replaying.StopsAt e rest → StopsAt (stopped plan e) rest
-leaves_of plan cause.KernelFailed rest h = tt
-leaves_of plan cause.StoreFailed rest h = tt
-leaves_of plan (cause.Damaged v) rest h = h
-leaves_of plan (cause.Differs v d) rest h = h
-leaves_of plan cause.NoMemory rest h = tt
+pub stops_of : (kernel store damaged : Type 0) (differs : ℕ → Difference → Type 0) (plan : Plan) (e : ReplayFault) → (e ≡ cause.KernelFailed → kernel) → (e ≡ cause.StoreFailed → store)
+    → ((v : ℕ) → e ≡ cause.Damaged v → damaged) → ((v : ℕ) (d : Difference) → e ≡ cause.Differs v d → differs v d) → StopsSo kernel store damaged differs plan (stopped plan e)
+stops_of kernel store damaged differs plan cause.KernelFailed k s harm other = k refl
+stops_of kernel store damaged differs plan cause.StoreFailed k s harm other = s refl
+stops_of kernel store damaged differs plan (cause.Damaged v) k s harm other = harm v refl
+stops_of kernel store damaged differs plan (cause.Differs v d) k s harm other = (other v d refl, refl)
+stops_of kernel store damaged differs plan cause.NoMemory k s harm other = tt
 
 pub silent_of : (told : Option (List (ℕ × List ℕ))) → (IsSome told → ⊥) → told ≡ None
 silent_of None h = refl
 silent_of (Some files) h = absurd (h refl)
 
--- ---- a run that stopped before anything was replayed
+-- ---- a run that was replayed
 
-pub early_cut : (versions : List Checked) (budget : Budget) (allowance : ℕ) (kernel : Type 0) (e : RunFault) → EndsSo versions kernel ⊥ ⊥ e → IsCut versions budget allowance e []
-early_cut versions budget allowance kernel (fault.TooManyNodes count) h = refl
-early_cut versions budget allowance kernel fault.KernelFailed h = inl refl
-early_cut versions budget allowance kernel fault.StoreFailed h = absurd h.0
-early_cut versions budget allowance kernel (fault.Damaged v) h = absurd h.0
-early_cut versions budget allowance kernel (fault.Differs plan v difference) h = absurd h.0
-early_cut versions budget allowance kernel fault.NoMemory h = inl refl
-
-pub early_ends : (versions : List Checked) (kernel store silent : Type 0) (e : RunFault) → EndsSo versions kernel ⊥ ⊥ e → EndsSo versions kernel store silent e
-early_ends versions kernel store silent (fault.TooManyNodes count) h = h
-early_ends versions kernel store silent fault.KernelFailed h = h
-early_ends versions kernel store silent fault.StoreFailed h = absurd h.0
-early_ends versions kernel store silent (fault.Damaged v) h = absurd h.0
-early_ends versions kernel store silent (fault.Differs plan v difference) h = absurd h.0
-early_ends versions kernel store silent fault.NoMemory h = tt
-
--- ---- one that was replayed
-
-pub late_ends : (versions : List Checked) (before kernel store silent : Type 0) (plan : Plan) (e : RunFault) → (kernel → before) → length (prefixes versions) ≤ 512
-    → StopsSo kernel store silent plan e → EndsSo versions before store silent e
-late_ends versions before kernel store silent plan (fault.TooManyNodes count) rose few h = absurd h
-late_ends versions before kernel store silent plan fault.KernelFailed rose few h = (rose h, few)
-late_ends versions before kernel store silent plan fault.StoreFailed rose few h = (h, few)
-late_ends versions before kernel store silent plan (fault.Damaged v) rose few h = (h, few)
-late_ends versions before kernel store silent plan (fault.Differs other v difference) rose few h = (h.0, few)
-late_ends versions before kernel store silent plan fault.NoMemory rose few h = tt
+ends_so : (versions : List Checked) (before kernel store silent : Type 0) (differs : ℕ → Difference → Type 0) (plan : Plan) (e : RunFault) → (kernel → before) → length (prefixes versions) ≤ 512
+    → ((v : ℕ) (d : Difference) → differs v d → silent) → StopsSo kernel store silent differs plan e → EndsSo versions before store silent e
+ends_so versions before kernel store silent differs plan (fault.TooManyNodes count) rose few never h = absurd h
+ends_so versions before kernel store silent differs plan fault.KernelFailed rose few never h = (rose h, few)
+ends_so versions before kernel store silent differs plan fault.StoreFailed rose few never h = (h, few)
+ends_so versions before kernel store silent differs plan (fault.Damaged v) rose few never h = (h, few)
+ends_so versions before kernel store silent differs plan (fault.Differs other v difference) rose few never h = (never v difference h.0, few)
+ends_so versions before kernel store silent differs plan fault.NoMemory rose few never h = tt
 
 module _ (versions : List Checked) (budget : Budget) (allowance : ℕ) (made : Planned) (is : IsPlanned versions budget allowance made) where
-  begun : (done rest : Ops) → operations_of made.costs budget made.plan ≡ done ++ rest → IsBegun versions budget allowance made.plan done rest
-  begun done rest course = record { costs = made.costs; rows = is.rows; least = is.least; course = course }
-
   pub planned_tree : IsTreeOf made.costs made.forest
   planned_tree = subst (IsTreeOf made.costs) (sym is.left) (left_is_tree versions made.costs is.sound (rows_fit versions allowance made.costs is.rows))
 
@@ -111,25 +84,27 @@ module _ (versions : List Checked) (budget : Budget) (allowance : ℕ) (made : P
       (length shared.texts) made.forest shared.ways many is.left (same.2 ∙ ways_are)
   planned_ways sources names ways (Err e) ways_are same many = tt
 
-  cut_of : (kernel store silent : Type 0) (e : RunFault) (done rest : Ops) → StopsSo kernel store silent made.plan e → operations_of made.costs budget made.plan ≡ done ++ rest
-      → LeavesOff (Err e) rest → IsCut versions budget allowance e done
-  cut_of kernel store silent (fault.TooManyNodes count) done rest stops course leaves = absurd leaves
-  cut_of kernel store silent fault.KernelFailed done rest stops course leaves = inr (made.plan, rest, begun done rest course)
-  cut_of kernel store silent fault.StoreFailed done rest stops course leaves = inr (made.plan, rest, begun done rest course)
-  cut_of kernel store silent (fault.Damaged v) done rest stops course leaves =
-      (made.plan, leaves.0, begun done (Restore v ∷ leaves.0) (course ∙ ap (λ (l : Ops). done ++ l) leaves.1))
-  cut_of kernel store silent (fault.Differs plan v difference) done rest stops course leaves = (
-    leaves.0,
-    leaves.1,
-    subst (λ (p : Plan). IsBegun versions budget allowance p done (Compute v leaves.0 ∷ leaves.1)) (sym stops.1)
-        (begun done (Compute v leaves.0 ∷ leaves.1) (course ∙ ap (λ (l : Ops). done ++ l) leaves.2)),
-  )
-  cut_of kernel store silent fault.NoMemory done rest stops course leaves = inr (made.plan, rest, begun done rest course)
+  pub planned_many : (ways : List (List ℕ)) (result : Result Shared RunFault) → ways ≡ map (way_to (parents made.forest)) made.forest.ends
+      → IfOk result (λ shared. (shared.costs ≡ made.costs) × (shared.plan ≡ made.plan) × (shared.ways ≡ ways)) → IfOk result (λ shared. length shared.ways ≡ length versions)
+  planned_many ways (Ok shared) ways_are same = ap length (same.2 ∙ ways_are) ∙ ways_many versions made.costs.rows made.forest is.left
+  planned_many ways (Err e) ways_are same = tt
 
-  pub course_of : (kernel store silent : Type 0) (ways : List (List ℕ)) (result : Result Shared RunFault) (done rest : Ops)
-      → IfOk result (λ shared. (shared.costs ≡ made.costs) × (shared.plan ≡ made.plan) × (shared.ways ≡ ways)) → IfErr result (StopsSo kernel store silent made.plan)
-      → operations_of made.costs budget made.plan ≡ done ++ rest → LeavesOff result rest → IsCourse versions budget allowance result done
-  course_of kernel store silent ways (Ok shared) done rest same stops course leaves =
-      let whole : operations_of made.costs budget made.plan ≡ done = course ∙ (ap (λ (l : Ops). done ++ l) leaves ∙ append-nil done) in
-      sym whole ∙ (ap (λ (c : Costs). operations_of c budget made.plan) (sym same.0) ∙ ap (λ (p : Plan). operations_of shared.costs budget p) (sym same.1))
-  course_of kernel store silent ways (Err e) done rest same stops course leaves = cut_of kernel store silent e done rest stops course leaves
+  pub planned_alone : HaveTheirSources versions → HaveTheirNames versions → (ways : List (List ℕ)) (result : Result Shared RunFault) → ways ≡ map (way_to (parents made.forest)) made.forest.ends
+      → IfOk result (λ shared. (shared.costs ≡ made.costs) × (shared.plan ≡ made.plan) × (shared.ways ≡ ways))
+      → IfOk result (λ shared. steps_along_all shared.costs shared.ways ≡ visits.steps_of_all versions allowance)
+  planned_alone sources names ways (Ok shared) ways_are same =
+      ap (λ (c : Costs). steps_along_all c shared.ways) same.0
+      ∙ (ap (steps_along_all made.costs) same.2
+      ∙ all_steps versions allowance made.costs is.sound (rows_fit versions allowance made.costs is.rows) sources names (rows_recorded versions allowance made.costs is.rows is.sound sources names)
+      made.forest ways is.left ways_are)
+  planned_alone sources names ways (Err e) ways_are same = tt
+
+  -- over a store that tells its bytes no row differs
+  pub planned_ends : HaveTheirSources versions → HaveTheirNames versions → (before kernel store : Type 0) (told : Option (List (ℕ × List ℕ))) (result : Result Shared RunFault) → (kernel → before)
+      → length (prefixes versions) ≤ 512
+      → IfErr result (StopsSo kernel store (told ≡ None) (IsFirstToDiffer made.forest made.costs allowance told (operations_of made.costs budget made.plan)) made.plan)
+      → IfErr result (EndsSo versions before store (told ≡ None))
+  planned_ends sources names before kernel store told (Ok shared) rose few h = h
+  planned_ends sources names before kernel store told (Err e) rose few h =
+      ends_so versions before kernel store (told ≡ None) (IsFirstToDiffer made.forest made.costs allowance told (operations_of made.costs budget made.plan)) made.plan e rose few
+      (λ v d first. silent_of told (never_differs made.forest made.costs budget made.plan allowance told v d is.sound is.least.serves.plan (planned_recorded sources names) first)) h

@@ -1,5 +1,5 @@
 -- The tree of versions as sound rows leave it: the reached nodes are those that are not removed.
-use Rattle.std.proofs.Common.{◌≡◌, ℕ, zero, suc, ◌+◌, ◌-◌, ◌<◌, ◌≤◌, ◌==◌, ◌⊎◌, inl, inr, Bool, true, false, not, ◌||◌, cond, List, [], ◌∷◌, length, get_or, replicate, map, Option, Some, None, slice_get, refl, sym, ap, ◌∙◌, subst, arith, eq-zero-or-pos}
+use Rattle.std.proofs.Common.{◌≡◌, ℕ, zero, suc, ◌+◌, ◌<◌, ◌≤◌, ◌==◌, ◌⊎◌, inl, inr, Bool, true, false, not, ◌||◌, cond, List, [], ◌∷◌, length, get_or, replicate, map, Some, refl, sym, ap, ◌∙◌, subst, arith, eq-zero-or-pos}
 use Rattle.std.specs.List.{All, filter, list_any, range_with_len}
 use Rattle.std.proofs.lemmas.Bool.{false≢true}
 use Rattle.std.proofs.lemmas.Bool.Decides.{Decides-eqb}
@@ -13,18 +13,19 @@ use Rattle.plan_type.specs.declared.row.Reach.TheVariants as reach
 use Rattle.plan_type.specs.Costs.{IsReached, IsSound, is_dead_end, is_reached, is_reached_in, is_unreached, parent_in, row_of}
 use Rattle.plan_type.specs.Costs as costs_spec
 use Rattle.exec_tree.specs.declared.checked.Checked.{Checked}
-use Rattle.exec_tree.specs.Forests.{ForestParts, IsNode, cells_of, cut, forest_of, inputs_of, is_among, is_cut, is_removed, node_of, parent_of, parents, path}
+use Rattle.exec_tree.specs.Forests.{ForestParts, IsNode, cut, forest_of, inputs_of, is_among, is_cut, is_removed, moved, node_of, parent_of, parents, path}
 use Rattle.exec_tree.specs.Prefixes.{prefixes}
 use Rattle.exec_tree.proofs.CutLemmas.{AreWithin, cut_is_cut, path_none}
 use Rattle.audit_run.specs.Rows.{failed_nodes, has_failed, is_failed}
 use Rattle.audit_run.specs.Visits as visits
-use Rattle.audit_run.proofs.WayLemmas.{some_at}
+use Rattle.audit_run.proofs.WayLemmas.{ends_long, some_at}
 use Rattle.replayer.specs.Nodes.{program_of}
 use Rattle.replayer.specs.Trees.{IsTreeOf}
 use Rattle.replayer.proofs.PathLemmas.{path_step}
 use Rattle.replayer.proofs.RowLemmas.{row_there}
 use Rattle.replayer.proofs.TreeLemmas.{row_within, some_number}
 use Rattle.shared_run.specs.Trees.{FitTree, tree_left}
+use Rattle.shared_run.specs.Written.{way_to}
 
 -- ---- what a cut leaves as it is
 
@@ -44,6 +45,14 @@ module _ (versions : List Checked) (rows : List Row) where
   pub inputs_left : inputs_of (tree_left versions rows) ≡ inputs_of (forest_of versions)
   unfolding cut
   inputs_left = refl
+
+  pub ends_left : length (tree_left versions rows).ends ≡ length versions
+  unfolding cut
+  ends_left = length-map (forest_of versions).ends (moved (parents (forest_of versions)) (failed_nodes rows)) ∙ ends_long versions
+
+  -- there is a way for each version
+  pub ways_many : (forest : ForestParts) → forest ≡ tree_left versions rows → length (map (way_to (parents forest)) forest.ends) ≡ length versions
+  ways_many forest is = length-map forest.ends (way_to (parents forest)) ∙ (ap (λ (f : ForestParts). length f.ends) is ∙ ends_left)
 
   pub program_left : program_of (tree_left versions rows) ≡ visits.program_of versions
   unfolding cut
@@ -93,7 +102,7 @@ in_range a (suc n) =
 failed_among : (rows : List Row) (n : ℕ) → 1 ≤ n → n ≤ length rows → is_among (failed_nodes rows) n ≡ has_failed (numbered rows n)
 failed_among rows n least most = among_range (λ m. has_failed (numbered rows m)) (length rows) 1 n least (omega (arith, most))
 
-failed_within : (rows : List Row) (count : ℕ) → length rows ≡ count → AreWithin (failed_nodes rows) count
+pub failed_within : (rows : List Row) (count : ℕ) → length rows ≡ count → AreWithin (failed_nodes rows) count
 failed_within rows count many =
     All-weaker (λ m. (1 ≤ m) × (m < 1 + length rows)) (λ m. (1 ≤ m) × (m ≤ count)) (λ m h. let low : 1 ≤ m = h.0 in let high : m < 1 + length rows = h.1 in (low, omega (arith, high, many)))
     (failed_nodes rows)

@@ -2,10 +2,17 @@ pub mod CanonLemmas
 pub mod SameLemmas
 pub mod LeftLemmas
 pub mod BeginningLemmas
+pub mod VisitLemmas
 pub mod StateLemmas
 pub mod AlongLemmas
 pub mod AloneLemmas
 pub mod RecordLemmas
 pub mod TextLemmas
+pub mod RightLemmas
+pub mod ClosedLemmas
+pub mod DifferingLemmas
 pub mod WayLemmas
 pub mod CourseLemmas
+pub mod ReplayLemmas
+pub mod AuditLemmas
+pub mod NumberLemmas

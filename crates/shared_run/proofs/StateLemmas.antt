@@ -1,5 +1,5 @@
 -- A cell does the same, and leaves the same state, under inputs that agree on what it and the functions of the state read.
-use Rattle.std.proofs.Common.{◌≡◌, ℕ, zero, suc, ◌+◌, ◌<◌, ◌≤◌, List, [], ◌∷◌, ◌++◌, length, get_or, take, Option, Some, refl, sym, ap, ◌∙◌, subst, arith}
+use Rattle.std.proofs.Common.{◌≡◌, ℕ, zero, suc, ◌<◌, ◌≤◌, List, [], ◌∷◌, ◌++◌, length, get_or, take, Some, sym, ap, ◌∙◌, subst, arith}
 use Rattle.std.specs.List.{Contains}
 use Rattle.std.proofs.lemmas.List.Elements.{All-append, All-nil}
 use Rattle.chex_base.specs.Inputs.{value_of}
@@ -18,7 +18,7 @@ use Rattle.star_meaning.proofs.RenamedCells.{after_shows, shown_grows}
 use Rattle.exec_tree.specs.declared.checked.Checked.{Checked}
 use Rattle.exec_tree.specs.Keys.{InputMap}
 use Rattle.exec_tree.specs.Prefixes.{prefixes}
-use Rattle.audit_run.specs.Sources.{HaveTheirNames, HaveTheirSources}
+use Rattle.audit_run.specs.Sources.{HaveTheirSources}
 use Rattle.audit_run.specs.Visits.{nodes_of, program_of, state_after}
 use Rattle.audit_run.proofs.AgreeLemmas.{AreGood, IsGood, SameFirst}
 use Rattle.audit_run.proofs.RunLemmas.{state_more}

@@ -1,12 +1,11 @@
 -- What is written of a version's nodes is what the version prints by itself.
-use Rattle.std.proofs.Common.{◌≡◌, ℕ, zero, suc, ◌+◌, ◌-◌, ◌<◌, ◌≤◌, ◌⊎◌, inl, inr, Bool, true, false, ◌||◌, List, [], ◌∷◌, ◌++◌, length, get_or, take, drop, map, Option, Some, None, slice_get, refl, sym, ap, ◌∙◌, subst, arith, eq-zero-or-pos}
+use Rattle.std.proofs.Common.{◌≡◌, ℕ, zero, suc, ◌+◌, ◌-◌, ◌<◌, ◌≤◌, ◌⊎◌, inl, inr, true, false, ◌||◌, List, [], ◌∷◌, ◌++◌, length, get_or, take, drop, map, Option, Some, None, slice_get, refl, sym, ap, ◌∙◌, subst, arith, eq-zero-or-pos}
 use Rattle.std.specs.List.{All, Contains, flat_map}
 use Rattle.std.specs.Option.{unwrap_or}
 use Rattle.std.proofs.lemmas.Bool.{false≢true}
-use Rattle.std.proofs.lemmas.List.{get_or-map, length-map, length-take-le}
+use Rattle.std.proofs.lemmas.List.{length-map, length-take-le}
 use Rattle.std.proofs.lemmas.List.Elements.{All-cons, All-head, All-nil, All-tail, Contains-get_or}
-use Rattle.std.proofs.lemmas.Option.{none-some, slice_get-get_or, slice_get_within}
-use Rattle.star_syntax.specs.Cells.{numbered}
+use Rattle.std.proofs.lemmas.Option.{none-some, slice_get_within}
 use Rattle.star_value.specs.declared.failure.Failure.{Failure}
 use Rattle.star_meaning.specs.declared.ran.End.{End}
 use Rattle.star_meaning.specs.declared.ran.End.TheVariants as end
@@ -17,10 +16,10 @@ use Rattle.plan_type.specs.declared.costs.Costs.{Costs}
 use Rattle.plan_type.specs.declared.row.Row.{Row}
 use Rattle.plan_type.specs.declared.row.Reach.{Reach}
 use Rattle.plan_type.specs.declared.row.Reach.TheVariants as reach
-use Rattle.plan_type.specs.Costs.{IsReached, IsSound, is_dead_end, is_reached, is_unreached, row_of}
+use Rattle.plan_type.specs.Costs.{IsSound, is_dead_end, is_unreached, row_of}
 use Rattle.exec_tree.specs.declared.checked.Checked.{Checked}
 use Rattle.exec_tree.specs.declared.node.Node.{Node}
-use Rattle.exec_tree.specs.Forests.{ForestParts, cut, forest_of, is_among, moved, parent_of, parents, path}
+use Rattle.exec_tree.specs.Forests.{ForestParts, cut, forest_of, is_among, moved, parent_of, parents}
 use Rattle.exec_tree.specs.Prefixes.{keys_of, number_of, prefixes}
 use Rattle.exec_tree.proofs.CutLemmas.{moved_is, nearest, nearest_above, nearest_here, nearest_none}
 use Rattle.node_rows.specs.Rows.{HasEnd}
@@ -29,29 +28,29 @@ use Rattle.audit_run.specs.Sources.{HaveTheirNames, HaveTheirSources}
 use Rattle.audit_run.proofs.RunLemmas.{no_place}
 use Rattle.audit_run.proofs.TreeLemmas.{ends_there, length-nodes_of}
 use Rattle.audit_run.proofs.WayLemmas.{some_at}
-use Rattle.replayer.specs.Nodes.{depth_at, result_at, state_at, text_at}
+use Rattle.replayer.specs.Nodes.{depth_at, result_at, state_at}
 use Rattle.replayer.specs.Trees.{AreRecorded, AreTexts}
 use Rattle.shared_run.specs.Trees.{FitTree, tree_left}
 use Rattle.shared_run.specs.Written.{AreWays, text_in, texts_alone, way_to, written}
 use Rattle.shared_run.proofs.AloneLemmas.{few_results, first_is, here, none_after, nothing_after, one_after, result_is, results}
-use Rattle.shared_run.proofs.AlongLemmas.{depth_along, left, node, node_least, node_most, node_up, own, result_along, way_along}
-use Rattle.shared_run.proofs.LeftLemmas.{count_left, dead_is, failed_is, low_left, parent_left, parents_left, reached_at, row_at}
+use Rattle.shared_run.proofs.AlongLemmas.{depth_along, node_least, node_most, node_up, own, result_along, way_along}
+use Rattle.shared_run.proofs.LeftLemmas.{dead_is, failed_is, low_left, parent_left, parents_left, reached_at, row_at}
 
 -- ---- how rows end
 
-abbrev end_of : End → Reach
+abbrev pub end_of : End → Reach
 end_of end.Done = reach.Done
 end_of (end.Failed failure line) = reach.Failed
 
-abbrev ended : Option Ran → Reach
+abbrev pub ended : Option Ran → Reach
 ended None = reach.Unreached
 ended (Some r) = end_of r.end
 
-row_ends : (e : End) (m : MachineState) (row : Row) → HasEnd e m row → row.end ≡ end_of e
+pub row_ends : (e : End) (m : MachineState) (row : Row) → HasEnd e m row → row.end ≡ end_of e
 row_ends end.Done m row h = h.0
 row_ends (end.Failed failure line) m row h = h.0
 
-end_reached : (e : End) → is_unreached (end_of e) ≡ false
+pub end_reached : (e : End) → is_unreached (end_of e) ≡ false
 end_reached end.Done = refl
 end_reached (end.Failed failure line) = refl
 
@@ -74,7 +73,7 @@ joined f (n ∷ ns) (r ∷ rs) number long each =
     joined f ns rs (number + 1) (omega (arith, long)) (λ j q is. let shift : number + suc j ≡ number + 1 + j = omega arith in each (suc j) q is ∙ ap (λ (k : ℕ). cell_text k q) shift) in
     ap (λ (t : List ℕ). t ++ flat_map f ns) first ∙ ap (λ (t : List ℕ). cell_text number r ++ t) rest
 
-get_take : (xs : List ℕ) (n j : ℕ) → j < n → get_or (take n xs) j 0 ≡ get_or xs j 0
+pub get_take : (xs : List ℕ) (n j : ℕ) → j < n → get_or (take n xs) j 0 ≡ get_or xs j 0
 get_take xs zero j less = absurd (omega (arith, less))
 get_take [] (suc n) j less = refl
 get_take (x ∷ xs) (suc n) zero less = refl
@@ -100,29 +99,29 @@ take_within P (x ∷ xs) (suc n) each le = All-cons P x (take n xs) (each 0 (ome
 module _ (versions : List Checked) (allowance : ℕ) (costs : Costs) (sound : IsSound costs) (fit : FitTree versions costs)
     (sources : HaveTheirSources versions) (names : HaveTheirNames versions) (recorded : AreRecorded (tree_left versions costs.rows) costs allowance)
     (v : Checked) (there : Contains versions v) where
-  abbrev tree : ForestParts
+  abbrev pub tree : ForestParts
   tree = tree_left versions costs.rows
 
-  abbrev all : List Ran
+  abbrev pub all : List Ran
   all = results versions allowance sources v there
 
-  abbrev many : ℕ
+  abbrev pub many : ℕ
   many = length v.cells
 
-  abbrev ns : List ℕ
+  abbrev pub ns : List ℕ
   ns = own versions allowance costs sound fit sources names v there
 
-  abbrev at : ℕ → ℕ
+  abbrev pub at : ℕ → ℕ
   at j = get_or ns j 0
 
-  least : (j : ℕ) → j < many → 1 ≤ at j
+  pub least : (j : ℕ) → j < many → 1 ≤ at j
   least j less = node_least versions allowance costs sound fit sources names v there j less
 
-  most : (j : ℕ) → j < many → at j ≤ length costs.rows
+  pub most : (j : ℕ) → j < many → at j ≤ length costs.rows
   most j less = node_most versions allowance costs sound fit sources names v there j less
 
   -- the result of a reached node is the version's
-  result_there : (j : ℕ) (r : Ran) → j < many → slice_get all j ≡ Some r → result_at tree allowance (at j) ≡ r
+  pub result_there : (j : ℕ) (r : Ran) → j < many → slice_get all j ≡ Some r → result_at tree allowance (at j) ≡ r
   result_there j r less is =
       result_along versions allowance costs sound fit sources names v there j less ∙ sym (result_is versions allowance sources v there j r less is)
 
@@ -165,7 +164,7 @@ module _ (versions : List Checked) (allowance : ℕ) (costs : Costs) (sound : Is
           let gone : is_unreached row.end ≡ true = comes_next j above row less over is ∙ ap (λ (e : Reach). is_failed e || is_unreached e) (ends ∙ ap end_of failed) in
           unreached_is row.end gone ∙ sym (ap ended none)
 
-  row_ends_at : (j : ℕ) (row : Row) → j < many → row_of costs (at j) ≡ Some row → row.end ≡ ended (slice_get all j)
+  pub row_ends_at : (j : ℕ) (row : Row) → j < many → row_of costs (at j) ≡ Some row → row.end ≡ ended (slice_get all j)
   row_ends_at zero row less is = reached_ends 0 row (here versions allowance sources v there 0) less is (first_is versions allowance sources v there less) (comes_first row less is)
   row_ends_at (suc j) row less is =
       let low : j < many = omega (arith, less) in
@@ -335,10 +334,10 @@ module _ (versions : List Checked) (allowance : ℕ) (costs : Costs) (sound : Is
 
 module _ (versions : List Checked) (allowance : ℕ) (costs : Costs) (sound : IsSound costs) (fit : FitTree versions costs)
     (sources : HaveTheirSources versions) (names : HaveTheirNames versions) (recorded : AreRecorded (tree_left versions costs.rows) costs allowance) where
-  abbrev top : List ℕ
+  abbrev pub top : List ℕ
   top = parents (forest_of versions)
 
-  abbrev ways : List Checked → List (List ℕ)
+  abbrev pub ways : List Checked → List (List ℕ)
   ways vs = map (way_to top) (map (moved top (failed_nodes costs.rows)) (map (λ (v : Checked). number_of (prefixes versions) (keys_of v)) vs))
 
   ways_within : (vs : List Checked) → All (λ (v : Checked). Contains versions v) vs → AreWays (length costs.rows) (ways vs)
@@ -360,7 +359,7 @@ module _ (versions : List Checked) (allowance : ℕ) (costs : Costs) (sound : Is
       let rest = texts_from_ways texts are vs (All-tail (λ (w : Checked). Contains versions w) v vs h) in
       ap (λ (t : List ℕ). t ∷ map (written texts) (ways vs)) first ∙ ap (λ (l : List (List ℕ)). text v.cells v.inputs allowance ∷ l) rest
 
-  ways_are : map (way_to (parents (tree_left versions costs.rows))) (tree_left versions costs.rows).ends ≡ ways versions
+  pub ways_are : map (way_to (parents (tree_left versions costs.rows))) (tree_left versions costs.rows).ends ≡ ways versions
   unfolding cut forest_of
   ways_are = refl
 

@@ -1,9 +1,16 @@
 -- The nodes from one up to the top, gathered one by one.
-use Rattle.std.proofs.Common.{◌≡◌, ℕ, ◌+◌, ◌<◌, ◌≤◌, List, [], ◌∷◌, ◌++◌, length, get_or, map, take, reverse, refl, sym, ap, ◌∙◌, subst, arith, append_assoc, append-nil}
+use Rattle.std.proofs.Common.{◌≡◌, ℕ, ◌<◌, ◌≤◌, List, [], ◌∷◌, ◌++◌, length, reverse, sym, ap, ◌∙◌, subst, append_assoc, append-nil}
+use Rattle.std.specs.List.{All}
+use Rattle.std.proofs.lemmas.List.{reverse-append}
+use Rattle.std.proofs.lemmas.List.Elements.{All-head, All-nil, All-push, All-tail}
 use Rattle.exec_tree.specs.Forests.{ForestParts, parent_of, parents, path}
 use Rattle.exec_tree.proofs.CutLemmas.{path_none}
 use Rattle.replayer.proofs.PathLemmas.{path_step}
 use Rattle.shared_run.specs.Written.{way_to}
+
+pub all_reverse : (P : ℕ → Type 0) (xs : List ℕ) → All P xs → All P (reverse xs)
+all_reverse P [] h = All-nil P
+all_reverse P (x ∷ xs) h = subst (All P) (sym (reverse-append (x ∷ []) xs)) (All-push P (reverse xs) x (all_reverse P xs (All-tail P x xs h)) (All-head P x xs h))
 
 pub way_more : (forest : ForestParts) (nodes later : List ℕ) (here up node : ℕ) → 1 ≤ here → here ≤ length forest.nodes → up ≡ parent_of forest here → up < here → later ≡ nodes ++ here ∷ []
     → nodes ++ path (parents forest) here ≡ path (parents forest) node → later ++ path (parents forest) up ≡ path (parents forest) node

@@ -1,8 +1,9 @@
 -- Why the replay of a plan stops, and where.
-use Rattle.std.specs.Prelude.{◌≡◌, ℕ, List, [], ◌∷◌, Result, Ok, Err}
+use Rattle.std.specs.Prelude.{◌≡◌, ℕ, [], ◌∷◌, Result, Ok, Err}
 use Rattle.plan_type.specs.declared.plan.Plan.{Plan}
 use Rattle.plan_type.specs.declared.operations.Operation.TheVariants.{Compute, Restore}
 use Rattle.plan_type.specs.Operations.{Ops}
+use Rattle.replayer.specs.declared.difference.Difference.{Difference}
 use Rattle.replayer.specs.declared.fault.ReplayFault.{ReplayFault}
 use Rattle.replayer.specs.declared.fault.ReplayFault.TheVariants as cause
 use Rattle.shared_run.specs.declared.fault.RunFault.{RunFault}
@@ -31,11 +32,12 @@ abbrev pub LeavesOff : Result Shared RunFault → Ops → Type 0
 LeavesOff (Ok shared) rest = rest ≡ []
 LeavesOff (Err e) rest = StopsAt e rest
 
--- why the replay of this plan stops
-abbrev pub StopsSo : Type 0 → Type 0 → Type 0 → Plan → RunFault → Type 0
-StopsSo kernel store silent plan (fault.TooManyNodes count) = ⊥
-StopsSo kernel store silent plan fault.KernelFailed = kernel
-StopsSo kernel store silent plan fault.StoreFailed = store
-StopsSo kernel store silent plan (fault.Damaged v) = silent
-StopsSo kernel store silent plan (fault.Differs other v difference) = silent × (other ≡ plan)
-StopsSo kernel store silent plan fault.NoMemory = Unit {0}
+-- why the replay of this plan stops: what holds where the kernel failed, where the store failed, at damage, and at a difference;
+-- want of memory is free
+abbrev pub StopsSo : Type 0 → Type 0 → Type 0 → (ℕ → Difference → Type 0) → Plan → RunFault → Type 0
+StopsSo kernel store damaged differs plan (fault.TooManyNodes count) = ⊥
+StopsSo kernel store damaged differs plan fault.KernelFailed = kernel
+StopsSo kernel store damaged differs plan fault.StoreFailed = store
+StopsSo kernel store damaged differs plan (fault.Damaged v) = damaged
+StopsSo kernel store damaged differs plan (fault.Differs other v difference) = differs v difference × (other ≡ plan)
+StopsSo kernel store damaged differs plan fault.NoMemory = Unit {0}

@@ -20,8 +20,9 @@ pub enum RunFault {
     Damaged {
         node: NodeId,
     },
-    /// The replay of this plan measured another row of the node than the audit did: the first field
-    /// in which they differ. It never comes over a store that tells its bytes.
+    /// The replay of this plan measured another row of the node than the one that was planned by:
+    /// the first field in which they differ. Where the rows are those of the versions, as an audit's
+    /// are, it never comes over a store that tells its bytes.
     Differs {
         plan: Plan,
         node: NodeId,

@@ -9,9 +9,9 @@ ghost use Rattle.shared_run.specs.Courses.{EndsSo};
 ghost use Rattle.shared_run.specs.Planning.{IsPlanned};
 
 use crate::RunFault;
-use audit_run::{AuditFault, audit};
+use crate::auditing::measure;
 use chex_base::NoMemory;
-use exec_tree::{Checked, Forest, TreeFault, merge};
+use exec_tree::{Checked, Forest};
 use kernel_api::Kernel;
 use plan_optimum::least;
 use plan_type::{Budget, Costs, Plan};
@@ -47,15 +47,9 @@ pub(crate) fn prepare<K: Kernel>(
     ensures err { IfErr result (EndsSo versions.now (Rose (K.faults kernel.old) (K.faults kernel.new)) ⊥ ⊥) }
     ensures later { K.faults kernel.old ≤ K.faults kernel.new }
 {
-    let mut forest = match merge(alloc, versions) {
-        Ok(forest) => forest,
-        Err(TreeFault::TooManyNodes { count }) => return Err(RunFault::TooManyNodes { count }),
-        Err(TreeFault::NoMemory) => return Err(RunFault::NoMemory),
-    };
-    let costs = match audit(alloc, &mut forest, versions, kernel, allowance) {
-        Ok(costs) => costs,
-        Err(AuditFault::KernelFailed) => return Err(RunFault::KernelFailed),
-        Err(AuditFault::NoMemory) => return Err(RunFault::NoMemory),
+    let (forest, costs) = match measure(alloc, versions, allowance, kernel) {
+        Ok(measured) => measured,
+        Err(fault) => return Err(fault),
     };
     match least(alloc, &costs, budget) {
         Ok(plan) => Ok(Planned {

@@ -10,11 +10,13 @@ ghost use Rattle.exec_tree.specs.Prefixes.{prefixes};
 ghost use Rattle.audit_run.specs.Rows.{AreRows};
 ghost use Rattle.audit_run.specs.Sources.{HaveTheirNames, HaveTheirSources};
 ghost use Rattle.audit_run.specs.Visits.{program_of, steps_of_all};
+ghost use Rattle.replayer.specs.Courses.{IsFirstToDiffer};
 ghost use Rattle.replayer.specs.Nodes as nodes;
 ghost use Rattle.replayer.specs.Trees.{AreRecorded, AreTexts, IsTreeOf};
 ghost use Rattle.replayer.specs.Machines.{IsAlikeAt};
 ghost use Rattle.replayer.specs.Listening.{TellsAllBy};
 ghost use Rattle.shared_run.specs.Courses.{EndsSo, IsCourse};
+ghost use Rattle.shared_run.specs.Numbers.{steps_along_all};
 ghost use Rattle.shared_run.specs.Replaying.{LeavesOff, StopsSo, stopped};
 ghost use Rattle.shared_run.specs.Trees.{tree_left};
 ghost use Rattle.shared_run.specs.Written.{AreWays, texts_alone, written};
@@ -77,6 +79,7 @@ pub fn run_versions<K: Kernel, S: Store>(
     // What is written of each version is what it prints by itself.
     ensures texts { IfOk result (λ shared. IsSome (S.stock store.old).told → map (written shared.texts) shared.ways ≡ texts_alone versions.now allowance) }
     ensures ways { IfOk result (λ shared. AreWays (length shared.texts) shared.ways) }
+    ensures many { IfOk result (λ shared. length shared.ways ≡ length versions.now) }
 
     // No plan of the class costs less than the one that was carried out.
     ensures rows { IfOk result (λ shared. AreRows versions.now allowance shared.costs.rows) }
@@ -85,6 +88,8 @@ pub fn run_versions<K: Kernel, S: Store>(
 
     // The steps are those of all versions, each by itself, and the plan's work.
     ensures steps { IfOk result (λ shared. K.steps kernel.new ≡ K.steps kernel.old + steps_of_all versions.now allowance + work shared.costs shared.plan) }
+
+    ensures alone { IfOk result (λ shared. steps_along_all shared.costs shared.ways ≡ steps_of_all versions.now allowance) }
 
     // The live state is that after the live node, nothing is stored, and the peak is the plan's.
     ensures live { IfOk result (λ shared. IsSome (S.stock store.old).told
@@ -117,7 +122,7 @@ pub fn run_versions<K: Kernel, S: Store>(
 }
 
 /// Carries out what was planned. `ways` are handed through.
-fn carry_out<K: Kernel, S: Store>(
+pub(crate) fn carry_out<K: Kernel, S: Store>(
     alloc: Global,
     planned: Planned,
     ways: Ways,
@@ -129,7 +134,6 @@ fn carry_out<K: Kernel, S: Store>(
 ) -> Result<Shared, RunFault>
     requires sound { IsSound planned.costs }
     requires tree { IsTreeOf planned.costs planned.forest }
-    requires recorded { AreRecorded planned.forest planned.costs allowance }
     requires budget { IsBudget budget.now }
     requires class { IsPlan planned.costs planned.plan }
     requires fits { peak planned.costs budget.now planned.plan ≤ budget.now.most }
@@ -138,6 +142,7 @@ fn carry_out<K: Kernel, S: Store>(
     ensures same { IfOk result (λ shared. (shared.costs ≡ planned.costs) × (shared.plan ≡ planned.plan) × (shared.ways ≡ ways)) }
     ensures texts { IfOk result (λ shared. IsSome (S.stock store.old).told → AreTexts planned.forest planned.costs allowance shared.texts) }
     ensures many { IfOk result (λ shared. length shared.texts ≡ length planned.costs.rows) }
+    ensures rows { OnOk result (IsSome (S.stock store.old).told → AreRecorded planned.forest planned.costs allowance) }
     ensures steps { OnOk result (K.steps kernel.new ≡ K.steps kernel.old + work planned.costs planned.plan) }
     ensures live { OnOk result (IsSome (S.stock store.old).told
         → IsAlikeAt planned.forest allowance (K.live kernel.new) (ran planned.costs budget.now (operations_of planned.costs budget.now planned.plan)).live) }
@@ -148,7 +153,8 @@ fn carry_out<K: Kernel, S: Store>(
     ensures listeners { (done : Ops) × (rest : Ops) × (operations_of planned.costs budget.now planned.plan ≡ done ++ rest) × LeavesOff result rest
         × TellsAllBy (λ b. record { heard = (⟦<dyn Tap as Tap>⟧ b.vtable).heard b.value; faults = (⟦<dyn Tap as Tap>⟧ b.vtable).faults b.value; wants = (⟦<dyn Tap as Tap>⟧ b.vtable).wants b.value })
         done taps.old.live.items taps.old.retired.items taps.new.live.items taps.new.retired.items }
-    ensures err { IfErr result (StopsSo (Rose (K.faults kernel.old) (K.faults kernel.new)) (Rose (S.faults store.old) (S.faults store.new)) ((S.stock store.old).told ≡ None) planned.plan) }
+    ensures err { IfErr result (StopsSo (Rose (K.faults kernel.old) (K.faults kernel.new)) (Rose (S.faults store.old) (S.faults store.new)) ((S.stock store.old).told ≡ None)
+        (IsFirstToDiffer planned.forest planned.costs allowance (S.stock store.old).told (operations_of planned.costs budget.now planned.plan)) planned.plan) }
     ensures later { K.faults kernel.old ≤ K.faults kernel.new }
     ensures store_later { S.faults store.old ≤ S.faults store.new }
 {

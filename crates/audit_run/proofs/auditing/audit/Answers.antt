@@ -36,8 +36,8 @@ loop-place-preserved g c =
       later = omega (arith, c.in_ok-add_version.ensures.later, at.invariant.later);
     }
 
-pub failed-requires : goal.failed-requires
-failed-requires g c =
+pub failed_nodes-requires : goal.failed_nodes-requires
+failed_nodes-requires g c =
     let versions = c.args.versions.now in
     let rows = c.loop-place.rows.items in
     let all : AreRows versions c.args.allowance rows = all_added versions c.args.allowance c.loop-place.place rows (omega (arith, c.loop-place-test.false)) c.loop-place.invariant.rows in
