@@ -4,8 +4,8 @@
 ghost use Rattle.std.specs.Prelude.{◌≡◌, ◌≢◌, None, IfOk, MatchResult, map, string_bytes};
 ghost use Rattle.std.specs.IoError.{error_kind};
 ghost use Rattle.std.specs.Process.{exit_status};
-ghost use Rattle.chex_words.specs.Words.{command_of};
 ghost use Rattle.chex_top.specs.Ends.{Yields};
+ghost use Rattle.chex_top.specs.Words.{asked_of};
 ghost use Rattle.chex_cli.specs.Exits.{IsExit};
 
 mod explaining;
@@ -53,7 +53,7 @@ fn called(rt: &HostRuntime, words: &[String]) -> ExitCode
 /// Makes the kernel, the store and the listeners that the words name, calls `chex`, and writes to
 /// standard error what the listeners report and, where the words are no command, what is one.
 fn performed(rt: &HostRuntime, words: &[String]) -> Result<Status, NoMemory>
-    ensures { IfOk result (λ status. command_of (map string_bytes words.now) ≡ None → Yields Status.Usage status) }
+    ensures { IfOk result (λ status. asked_of (map string_bytes words.now) ≡ None → Yields Status.Usage status) }
 {
     let alloc = rt.alloc();
     let mut live: Vec<Box<dyn Tap>> = Vec::new(alloc);
