@@ -50,8 +50,8 @@ fn called(rt: &HostRuntime, words: &[String]) -> ExitCode
     }
 }
 
-/// Makes the kernel, the store and the listeners that the words name, calls `chex`, and writes to
-/// standard error what the listeners report and, where the words are no command, what is one.
+/// Makes the listeners that the words name, carries out the words, and writes to standard error what
+/// the listeners report and, where the words are no command, what is one.
 fn performed(rt: &HostRuntime, words: &[String]) -> Result<Status, NoMemory>
     ensures { IfOk result (λ status. asked_of (map string_bytes words.now) ≡ None → Yields Status.Usage status) }
 {
@@ -67,19 +67,29 @@ fn performed(rt: &HostRuntime, words: &[String]) -> Result<Status, NoMemory>
         live.push(Box::new(alloc, Chain::new(alloc))?)?;
     }
     let mut taps = Taps::new(alloc, live)?;
+    let status = carried_out(rt, words, &mut taps);
+    report(rt, taps.live())?;
+    report(rt, taps.retired())?;
+    if status == Status::Usage {
+        explain(rt, words);
+    }
+    Ok(status)
+}
+
+/// Calls `chex` over the files that are there, the standard output, and a kernel and a store of the
+/// program's own.
+fn carried_out(rt: &HostRuntime, words: &[String], taps: &mut Taps) -> Status
+    ensures { asked_of (map string_bytes words.now) ≡ None → Yields Status.Usage result }
+{
+    let alloc = rt.alloc();
     let mut library = FolderLibrary::new(rt);
     let mut out = OutSink::new(io::writer(rt));
     let mut kernel = StarKernel::new(alloc);
     let mut store = BlockStore::new(alloc);
     let finish = chex(
-        alloc, words, &mut library, &mut out, &mut kernel, &mut store, &mut taps,
+        alloc, words, &mut library, &mut out, &mut kernel, &mut store, taps,
     );
-    report(rt, taps.live())?;
-    report(rt, taps.retired())?;
-    if finish.status == Status::Usage {
-        explain(rt, words);
-    }
-    Ok(finish.status)
+    finish.status
 }
 
 fn unread(kind: ErrorKind) -> ExitCode
