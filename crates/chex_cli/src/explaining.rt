@@ -49,12 +49,17 @@ fn say_commands<R: Eprint>(rt: &R) -> io::Result<()> {
     for help in &COMMANDS {
         eprintln!(rt; "  {} {}\n      {}", help.name, help.line, help.does)?;
     }
-    eprintln!(rt; "\nchex COMMAND with no more words says what each of its options is.\n{STATUSES}")?;
+    eprintln!(rt;
+        "\nchex COMMAND with no more words says what each of its options is.\n{STATUSES}"
+    )?;
     eprintln!(rt; "example: {LAST}")
 }
 
 fn say_help<R: Eprint>(rt: &R, help: &Help) -> io::Result<()> {
-    eprintln!(rt; "\nusage: chex {} {}\n\n{}\n", help.name, help.line, help.does)?;
+    eprintln!(rt;
+        "\nusage: chex {} {}\n\n{}\n",
+        help.name, help.line, help.does
+    )?;
     for argument in help.arguments {
         eprintln!(rt; "  {:<16} {}", argument.shown, argument.says)?;
     }
@@ -94,11 +99,7 @@ fn first_part(alloc: Global, text: &str) -> Result<String, NoMemory> {
 }
 
 /// The first number that is outside its limits.
-fn number_reason(
-    alloc: Global,
-    help: &Help,
-    matches: &ArgMatches<'_>,
-) -> Result<String, NoMemory> {
+fn number_reason(alloc: Global, help: &Help, matches: &ArgMatches<'_>) -> Result<String, NoMemory> {
     for argument in help.arguments {
         if let Some((least, most)) = argument.limits {
             if let Some(text) = matches.get_str(argument.id) {

@@ -87,7 +87,13 @@ fn carried_out(rt: &HostRuntime, words: &[String], taps: &mut Taps) -> Status
     let mut kernel = StarKernel::new(alloc);
     let mut store = BlockStore::new(alloc);
     let finish = chex(
-        alloc, words, &mut library, &mut out, &mut kernel, &mut store, taps,
+        alloc,
+        words,
+        &mut library,
+        &mut out,
+        &mut kernel,
+        &mut store,
+        taps,
     );
     finish.status
 }

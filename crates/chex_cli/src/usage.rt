@@ -146,6 +146,7 @@ pub const COMMANDS: [Help; 2] = [
 pub const LAST: &str = "chex run examples/price_list/versions.json --budget 65536 --tally";
 
 /// The exit statuses.
-pub const STATUSES: &str = "exit status: 0 all ran, also where a cell failed; 1 memory was wanting; 2 the words are no command;
+pub const STATUSES: &str =
+    "exit status: 0 all ran, also where a cell failed; 1 memory was wanting; 2 the words are no command;
   3 a file is not there; 4 a read failed; 5 a file is not of its format; 6 a cell is refused;
   7 a count passes its limit; 10, 11 the kernel or the store failed; 12 a write failed";

@@ -66,7 +66,13 @@ pub fn called(
     }
     let mut taps = Taps::new(alloc, live)?;
     let finish = chex(
-        alloc, &words, library, &mut out, &mut kernel, &mut store, &mut taps,
+        alloc,
+        &words,
+        library,
+        &mut out,
+        &mut kernel,
+        &mut store,
+        &mut taps,
     );
     Ok(Ended {
         status: finish.status.number(),
