@@ -122,7 +122,7 @@ pub const COMMANDS: [Help; 2] = [
             TALLY,
             CHAIN,
         ],
-        example: "chex run examples/price_list/versions.json --budget 65536 --tally",
+        example: "chex run examples/orders/versions.json --budget 65536 --transcript",
     },
     Help {
         name: "solo",
@@ -143,7 +143,7 @@ pub const COMMANDS: [Help; 2] = [
 ];
 
 /// An example of a command.
-pub const LAST: &str = "chex run examples/price_list/versions.json --budget 65536 --tally";
+pub const LAST: &str = "chex run examples/orders/versions.json --budget 65536 --transcript";
 
 /// The exit statuses.
 pub const STATUSES: &str =
