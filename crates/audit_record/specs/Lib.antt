@@ -1,0 +1,4 @@
+pub mod Digests
+pub mod Record
+pub mod Reading
+pub mod Fitting

@@ -1,0 +1,40 @@
+//! Why a table was not played to its end.
+
+use chex_base::NoMemory;
+use star_value::Stop;
+use std::alloc::{AllocError, AllocFailed};
+
+/// Why a table was not played to its end.
+#[derive(Clone, Copy, Debug, PartialEq, Eq)]
+pub enum Fault {
+    /// A row is no call of the kinds that are made here, or what it names is not there.
+    Unread,
+    NoMemory,
+}
+
+impl From<NoMemory> for Fault {
+    fn from(_: NoMemory) -> Fault {
+        Fault::NoMemory
+    }
+}
+
+impl From<AllocError> for Fault {
+    fn from(_: AllocError) -> Fault {
+        Fault::NoMemory
+    }
+}
+
+impl<T: Drop> From<AllocFailed<T>> for Fault {
+    fn from(_: AllocFailed<T>) -> Fault {
+        Fault::NoMemory
+    }
+}
+
+impl From<Stop> for Fault {
+    fn from(stop: Stop) -> Fault {
+        match stop {
+            Stop::Failure(_) => Fault::Unread,
+            Stop::NoMemory => Fault::NoMemory,
+        }
+    }
+}
