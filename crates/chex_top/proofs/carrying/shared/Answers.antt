@@ -1,4 +1,5 @@
-use Rattle.std.proofs.Common.{arith, refl, length, length-map, map, ◌+◌, ◌≡◌, ◌∙◌}
+use Rattle.std.proofs.Common.{arith, refl, length, map, ◌+◌, ◌≡◌, ◌∙◌}
+use Rattle.std.proofs.lemmas.List.{length-map}
 use Rattle.std.specs.Str.{encode_utf8_all}
 use Rattle.chex_base.specs.declared.status.Status.TheVariants as ended
 use Rattle.audit_run.specs.Visits.{steps_of_all}
