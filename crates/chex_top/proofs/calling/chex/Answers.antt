@@ -31,4 +31,3 @@ returns-clause-ended g c =
     let d = c.decide-status.result in
     let other : c.decide-status.result.status ≢ ended.NoMemory = search rules in
     (e.0, e.1, inr (refl, (λ none. other (e.2.0 ∙ none)), kept_at d.status e.0.status d.plan e.0.plan c.kept.result e.2.0 e.2.1 c.kept.ensures, rw e.2.2 at c.in-Err.ensures.held), e.3, e.4)
-
