@@ -105,14 +105,14 @@ fn number_reason(alloc: Global, help: &Help, matches: &ArgMatches<'_>) -> Result
             if let Some(text) = matches.get_str(argument.id) {
                 if !is_within(least, most, text) {
                     return Ok(format!(in alloc;
-                        "{} is '{text}', which is no number from {least} to {most}",
-                        argument.shown
+                        "--{} is '{text}', which is no number from {least} to {most}",
+                        argument.id
                     )?);
                 }
             }
         }
     }
-    Ok(String::from_str(alloc, "a number is not read")?)
+    Ok(String::from_str(alloc, "a number has more than 19 digits, or a sign")?)
 }
 
 fn is_within(least: u64, most: u64, text: &str) -> bool {

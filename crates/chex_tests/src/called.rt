@@ -45,12 +45,6 @@ pub fn called(
     facts: &[&str],
     library: &mut MemoryLibrary,
 ) -> Result<Ended, Fault> {
-    let words = words_of(alloc, words)?;
-    library.failing = failing(alloc, facts, "fails library ")?;
-    library.calls = 0;
-    let mut out = MemorySink::new(alloc, ROOM, failing(alloc, facts, "fails sink ")?)?;
-    let mut kernel = FailingKernel::new(alloc, failing(alloc, facts, "fails kernel ")?);
-    let mut store = FailingStore::new(alloc, failing(alloc, facts, "fails store ")?);
     let mut live: Vec<Box<dyn Tap>> = Vec::new(alloc);
     for fact in facts {
         match *fact {
@@ -65,6 +59,23 @@ pub fn called(
         }
     }
     let mut taps = Taps::new(alloc, live)?;
+    called_before(alloc, words, facts, library, &mut taps)
+}
+
+/// The same before these listeners.
+fn called_before(
+    alloc: Global,
+    words: &str,
+    facts: &[&str],
+    library: &mut MemoryLibrary,
+    taps: &mut Taps,
+) -> Result<Ended, Fault> {
+    let words = words_of(alloc, words)?;
+    library.failing = failing(alloc, facts, "fails library ")?;
+    library.calls = 0;
+    let mut out = MemorySink::new(alloc, ROOM, failing(alloc, facts, "fails sink ")?)?;
+    let mut kernel = FailingKernel::new(alloc, failing(alloc, facts, "fails kernel ")?);
+    let mut store = FailingStore::new(alloc, failing(alloc, facts, "fails store ")?);
     let finish = chex(
         alloc,
         &words,
@@ -72,7 +83,7 @@ pub fn called(
         &mut out,
         &mut kernel,
         &mut store,
-        &mut taps,
+        taps,
     );
     Ok(Ended {
         status: finish.status.number(),
