@@ -1,5 +1,5 @@
 -- A version that runs alone, cell after cell.
-use Rattle.std.proofs.Common.{◌≡◌, ℕ, zero, suc, ◌+◌, ◌*◌, ◌<◌, ◌≤◌, ◌^◌, List, [], ◌∷◌, ◌++◌, length, get_or, drop, map, Option, Some, None, IfSome, IsSome, is_some, option_map, sum, refl, sym, ap, ◌∙◌, subst, arith, append_assoc, append-nil, length-append}
+use Rattle.std.proofs.Common.{◌≡◌, ℕ, zero, suc, ◌+◌, ◌*◌, ◌<◌, ◌≤◌, ◌^◌, List, [], ◌∷◌, ◌++◌, length, get_or, drop, map, Option, Some, IfSome, IsSome, is_some, option_map, sum, refl, sym, ap, ◌∙◌, subst, arith, append_assoc, append-nil, length-append}
 use Rattle.std.specs.List.{slice_get}
 use Rattle.std.proofs.lemmas.List.{drop_more, drop_all}
 use Rattle.std.proofs.lemmas.Option.{slice_get-get_or}
@@ -7,14 +7,12 @@ use Rattle.std.proofs.lemmas.List.Sums.{sum_by-append}
 use Rattle.star_syntax.specs.CellParts.{CellParts}
 use Rattle.star_syntax.specs.Cells.{numbered}
 use Rattle.star_syntax.specs.declared.cell.Program.{Program}
-use Rattle.star_value.specs.declared.failure.Failure.{Failure}
 use Rattle.star_meaning.specs.declared.ran.End.{End}
 use Rattle.star_meaning.specs.declared.ran.End.TheVariants as end
 use Rattle.star_meaning.specs.declared.ran.Ran.{Ran}
 use Rattle.star_meaning.specs.Cells.{Shown, cell_text, if_done, runs, runs_from, steps, text, texts_from}
 use Rattle.star_meaning.specs.Validity.{MachineState, after, no_cell, nothing_ran, ran_at, shown}
 use Rattle.kernel_api.specs.Live.{depth_of}
-use Rattle.plan_type.specs.declared.row.Reach.{Reach}
 use Rattle.plan_type.specs.declared.row.Reach.TheVariants as reach
 use Rattle.node_rows.specs.declared.running.Measured.{Measured}
 use Rattle.node_rows.specs.Measures.{IsMeasured}
@@ -87,19 +85,19 @@ module _ (cells : List CellParts) (inputs : InputMap) (allowance : ℕ) where
   }
 
   -- what the next cell needs
-  pub record MayRun (now place : ℕ) (live : Option MachineState) : Type 0 where
+  pub record MayRun (program : Program) (now place : ℕ) (live : Option MachineState) : Type 0 where
     pub ready : IsSome live
-    pub node_there : IsSome (numbered cells (place + 1))
+    pub node_there : IsSome (numbered program.cells (place + 1))
     pub few : depth_of live < 64
     pub room : now + allowance < 2 ^ 64
 
-  pub may_run : (before now place : ℕ) (written : List ℕ) (live : Option MachineState) → place < length cells → length cells ≤ 64 → allowance ≤ 1000000 → before ≤ 2 ^ 63
-      → Running before now place written live → MayRun now place live
-  may_run before now place written live inside short most low at =
+  pub may_run : (program : Program) (before now place : ℕ) (written : List ℕ) (live : Option MachineState) → place < length cells → length cells ≤ 64 → allowance ≤ 1000000 → before ≤ 2 ^ 63
+      → program ≡ program_of → Running before now place written live → MayRun program now place live
+  may_run program before now place written live inside short most low loaded at =
       let deep : depth_of live ≡ place = ap depth_of at.live_is ∙ at.deep in
       record {
         ready = ap is_some at.live_is;
-        node_there = ap is_some (cell_there cells place inside);
+        node_there = ap is_some (ap (λ (p : Program). numbered p.cells (place + 1)) loaded ∙ cell_there cells place inside);
         few = omega (arith, deep, inside, short);
         room = omega (arith, at.few, inside, short, most, low);
       }

@@ -38,7 +38,7 @@ use Rattle.chex_top.specs.RunTexts.{numbers_with, run_text}
 use Rattle.chex_top.specs.Stages.{IsCertain}
 use Rattle.chex_top.specs.Stopped as stopped
 use Rattle.chex_top.specs.Tasks.{AreReady, due}
-use Rattle.chex_top.specs.Ends.{End, Ends, EndsAlone, EndsShared, HasNoPlan, IsBounded, IsCutShort, IsDue, IsNothing, IsRefusal, IsRefused, IsShared, IsStopped, MayStop, StopsWith, Yields}
+use Rattle.chex_top.specs.Ends.{End, Ends, EndsAlone, EndsShared, HasNoPlan, IsBounded, IsCutShort, IsDue, IsKept, IsNothing, IsRefusal, IsRefused, IsShared, IsStopped, MayStop, StopsWith, Yields}
 use Rattle.chex_top.proofs.OnceLemmas.{due_single}
 
 -- ---- which statuses a refusal has
@@ -212,6 +212,9 @@ stop_ends versions budget allowance before stock live done why kernel store stat
 stop_ends versions budget allowance before stock live done why kernel store status plan bytes few so cut bound (inr h) =
     (bound, inr (record { why = fault.NoMemory; may = tt; cut = cut_part versions budget allowance why done cut; stops = nothing_stops status plan bytes h }))
 
+min_low : (m n : ℕ) → m ≤ n → min m n ≡ m
+min_low m n h = omega arith
+
 module _ (versions : List Checked) (budget : Budget) (allowance : ℕ) (before stock : Stock) (live : Option MachineState) (done : Ops) (shared : Shared)
     (texts : IsSome before.told → map (written shared.texts) shared.ways ≡ texts_alone versions allowance)
     (many : length (map (written shared.texts) shared.ways) ≡ length versions)
@@ -224,11 +227,11 @@ module _ (versions : List Checked) (budget : Budget) (allowance : ℕ) (before s
   steps = steps_of_all versions allowance + work shared.costs shared.plan
 
   -- the number that is told of the steps alone is their sum
-  told : min (steps_along_all shared.costs shared.ways) (2 ^ 64 - 1) ≡ steps_of_all versions allowance
-  told =
+  alone_told : min (steps_along_all shared.costs shared.ways) (2 ^ 64 - 1) ≡ steps_of_all versions allowance
+  alone_told =
       let few = steps_all versions allowance allowed.0 allowed.1 ready.cells in
       let many = ready.many in
-      min-eq_left (steps_along_all shared.costs shared.ways) (2 ^ 64 - 1) (omega (arith, alone, few, many)) ∙ alone
+      min_low (steps_along_all shared.costs shared.ways) (2 ^ 64 - 1) (omega (arith, alone, few, many)) ∙ alone
 
   -- all was done
   done_ends : (code : List ℕ)
@@ -242,7 +245,7 @@ module _ (versions : List Checked) (budget : Budget) (allowance : ℕ) (before s
     many = many;
     alone = texts;
     status = refl;
-    text = ap encode_utf8_all (says ∙ ap (λ n. run_text versions (map (written shared.texts) shared.ways) (numbers_with (length versions) budget n shared.costs shared.plan)) told);
+    text = ap encode_utf8_all (says ∙ ap (λ n. run_text versions (map (written shared.texts) shared.ways) (numbers_with (length versions) budget n shared.costs shared.plan)) alone_told);
     done = course;
     steps = refl;
     live = λ told. subst (λ (os : Ops). IsAlikeAt (tree_left versions shared.costs.rows) allowance live (ran shared.costs budget os).live) (sym course) (alike told);
@@ -261,17 +264,22 @@ module _ (versions : List Checked) (budget : Budget) (allowance : ℕ) (before s
 
   pub said_ends : (status : Status) (plan : Plan) (code : List ℕ)
       → ((status ≡ ended.Done) × (plan ≡ shared.plan)
-        × (code ≡ run_text versions (map (written shared.texts) shared.ways) (numbers_with (length versions) budget (min (steps_along_all shared.costs shared.ways) (2 ^ 64 - 1)) shared.costs shared.plan)))
+      × (code ≡ run_text versions (map (written shared.texts) shared.ways) (numbers_with (length versions) budget (min (steps_along_all shared.costs shared.ways) (2 ^ 64 - 1)) shared.costs shared.plan)))
       ⊎ IsNothing status plan (encode_utf8_all code)
       → EndsShared versions budget allowance before (end_of status plan (encode_utf8_all code) steps done live stock)
   said_ends status plan code (inl h) = (
     bound,
     inl (
-      subst (λ (s : Status). IsShared before.told versions budget allowance (end_of s plan (encode_utf8_all code) steps done live stock)) (sym h.0)
-          (subst (λ (p : Plan). IsShared before.told versions budget allowance (end_of ended.Done p (encode_utf8_all code) steps done live stock)) (sym h.1) (done_ends code h.2))
-    ),
+        subst (λ (s : Status). IsShared before.told versions budget allowance (end_of s plan (encode_utf8_all code) steps done live stock)) (sym h.0)
+        (subst (λ (p : Plan). IsShared before.told versions budget allowance (end_of ended.Done p (encode_utf8_all code) steps done live stock)) (sym h.1) (done_ends code h.2))
+        ),
   )
   said_ends status plan code (inr h) = (bound, inr (nothing_ends status plan (encode_utf8_all code) h))
+
+-- what is said of versions that ran has no other status
+pub said_other : (status other : Status) (plan : Plan) (bytes : List ℕ) (Rest : Type 0) → (((status ≡ ended.Done) × Rest) ⊎ IsNothing status plan bytes) → other ≢ ended.Done → other ≢ ended.NoMemory → status ≡ other → ⊥
+said_other status other plan bytes Rest (inl h) one two is = one (sym is ∙ h.0)
+said_other status other plan bytes Rest (inr h) one two is = two (sym is ∙ h.0)
 
 -- where the status is a fault's, its count rose
 pub fault_kernel : (versions : List Checked) (kernel store silent : Type 0) (why : RunFault) (status : Status) (plan : Plan) (bytes : List ℕ) → EndsSo versions kernel store silent why
@@ -300,6 +308,19 @@ fault_store versions kernel store silent why status plan bytes so (inl h) is = b
     by (fault.Differs plan v difference) k same = cc
     by fault.NoMemory k same = cc
 
+-- where a run stopped, not all was done
+pub stop_done : (why : RunFault) (status : Status) (plan : Plan) (bytes : List ℕ) → StopsWith why status plan bytes ⊎ IsNothing status plan bytes → status ≡ ended.Done → ⊥
+stop_done why status plan bytes (inr h) is = let both : ended.NoMemory ≡ ended.Done = sym h.0 ∙ is in cc
+stop_done why status plan bytes (inl h) is = by why (sym h.0 ∙ is)
+  where
+    by : (why : RunFault) → stopped.status_of why ≡ ended.Done → ⊥
+    by (fault.TooManyNodes count) same = cc
+    by fault.KernelFailed same = cc
+    by fault.StoreFailed same = cc
+    by (fault.Damaged v) same = cc
+    by (fault.Differs plan v difference) same = cc
+    by fault.NoMemory same = cc
+
 -- ---- a version alone
 
 -- what a kernel's refusal says
@@ -307,6 +328,12 @@ pub alone_stops : (version : Checked) (allowance : ℕ) (status : Status) (plan 
     → EndsAlone version allowance status bytes × HasNoPlan plan
 alone_stops version allowance status plan bytes (inl h) = (inr (inl (h.0, h.2)), h.1)
 alone_stops version allowance status plan bytes (inr h) = (inr (inr (h.0, h.2)), h.1)
+
+pub alone_other : (version : Checked) (allowance : ℕ) (status other : Status) (bytes : List ℕ) → EndsAlone version allowance status bytes → other ≢ ended.Done → other ≢ ended.KernelFault → other ≢ ended.NoMemory
+    → status ≡ other → ⊥
+alone_other version allowance status other bytes (inl h) one two three is = one (sym is ∙ h.0)
+alone_other version allowance status other bytes (inr (inl h)) one two three is = two (sym is ∙ h.0)
+alone_other version allowance status other bytes (inr (inr h)) one two three is = three (sym is ∙ h.0)
 
 -- ---- what a status says of an end that is due
 
@@ -347,13 +374,36 @@ carried_yields told status (inr (inr (inr (inl h)))) = inr (inl h)
 carried_yields told status (inr (inr (inr (inr (n, inl h))))) = inr (inr (inr (inr (inr (inr (inl h))))))
 carried_yields told status (inr (inr (inr (inr (n, inr h))))) = inr (inr (inr (inr (inr (inr (inr h))))))
 
-carried_write : (told : Option (List (ℕ × List ℕ))) (status : Status) → IsCarried told status → status ≡ ended.WriteFault → ⊥
-carried_write told status (inl h) is = let both : ended.Done ≡ ended.WriteFault = sym h ∙ is in cc
-carried_write told status (inr (inl h)) is = let both : ended.KernelFault ≡ ended.WriteFault = sym h ∙ is in cc
-carried_write told status (inr (inr (inl h))) is = let both : ended.StoreFault ≡ ended.WriteFault = sym h ∙ is in cc
-carried_write told status (inr (inr (inr (inl h)))) is = let both : ended.NoMemory ≡ ended.WriteFault = sym h ∙ is in cc
-carried_write told status (inr (inr (inr (inr (n, inl h))))) is = let both : ended.Differs ≡ ended.WriteFault = sym h ∙ is in cc
-carried_write told status (inr (inr (inr (inr (n, inr h))))) is = let both : ended.Damaged ≡ ended.WriteFault = sym h ∙ is in cc
+abbrev carries : Status → Bool
+carries ended.Done = true
+carries ended.NoMemory = true
+carries ended.Usage = false
+carries ended.Absent = false
+carries ended.ReadFault = false
+carries ended.BadFile = false
+carries ended.BadCell = false
+carries ended.TooMany = false
+carries ended.BadRecord = false
+carries ended.Differs = true
+carries ended.KernelFault = true
+carries ended.StoreFault = true
+carries ended.WriteFault = false
+carries ended.BadPlan = false
+carries ended.Damaged = true
+carries ended.NotBuilt = false
+
+carried_carries : (told : Option (List (ℕ × List ℕ))) (status : Status) → IsCarried told status → carries status ≡ true
+carried_carries told status (inl h) = ap carries h
+carried_carries told status (inr (inl h)) = ap carries h
+carried_carries told status (inr (inr (inl h))) = ap carries h
+carried_carries told status (inr (inr (inr (inl h)))) = ap carries h
+carried_carries told status (inr (inr (inr (inr (n, inl h))))) = ap carries h
+carried_carries told status (inr (inr (inr (inr (n, inr h))))) = ap carries h
+
+-- a task that was carried out has none of the other statuses
+pub task_other : (before : Stock) (t : Task) (end : End) (status other : Status) → Ends before (Ok t) end → status ≡ end.status → carries other ≡ false → status ≡ other → ⊥
+task_other before t end status other h same never is =
+    let both : true ≡ false = sym (carried_carries before.told end.status (carried before t end h)) ∙ ap carries (sym same ∙ is) ∙ never in cc
 
 abbrev IsOdd : Status → Type 0
 IsOdd status = (status ≡ ended.Differs) ⊎ (status ≡ ended.Damaged)
@@ -371,6 +421,7 @@ carried_silent told status (inr (inr (inr (inr h)))) odd = h.0
 
 -- no text comes with want of memory
 carried_empty : (before : Stock) (t : Task) (end : End) → Ends before (Ok t) end → end.status ≡ ended.NoMemory → end.text ≡ []
+unfolding stopped.line_of
 carried_empty before (task.Alone version allowance) end h is = by h.ends
   where
     by : EndsAlone version allowance end.status end.text → end.text ≡ []
@@ -380,23 +431,23 @@ carried_empty before (task.Alone version allowance) end h is = by h.ends
 carried_empty before (task.Shared versions budget allowance) end h is = by h.1
   where
     line : (why : RunFault) → stopped.status_of why ≡ ended.NoMemory → stopped.line_of why ≡ []
-    unfolding stopped.line_of
     line (fault.TooManyNodes count) k = cc
     line fault.KernelFailed k = cc
     line fault.StoreFailed k = cc
     line (fault.Damaged v) k = cc
     line (fault.Differs plan v difference) k = cc
     line fault.NoMemory k = refl
+
     by : IsShared before.told versions budget allowance end ⊎ IsCutShort before.told versions budget allowance end → end.text ≡ []
     by (inl k) = let both : ended.Done ≡ ended.NoMemory = sym k.status ∙ is in cc
     by (inr k) = k.stops.2 ∙ line k.why (sym k.stops.0 ∙ is)
 
 refusal_empty : (why : Refusal) (status : Status) (plan : Plan) (bytes : List ℕ) → IsRefusal why status plan bytes → status ≡ ended.NoMemory → bytes ≡ []
+unfolding line_of
 refusal_empty why status plan bytes (inr h) is = h.2
 refusal_empty why status plan bytes (inl h) is = h.2 ∙ line why (sym h.0 ∙ is)
   where
     line : (why : Refusal) → status_of why ≡ ended.NoMemory → line_of why ≡ []
-    unfolding line_of
     line Usage k = cc
     line (Absent file) k = cc
     line (ReadFailed file) k = cc
@@ -419,7 +470,7 @@ module _ (view : Option FileView) (words : List (List ℕ)) (before : Stock) (en
   due_write_fault same = by is.answer is.ends
     where
       by : (answer : Result Task Refusal) → Ends before answer end → ⊥
-      by (Ok t) h = carried_write before.told end.status (carried before t end h) same
+      by (Ok t) h = task_other before t end end.status ended.WriteFault h refl refl same
       by (Err why) h = refusal_other why end.status ended.WriteFault end.plan end.text h.says refl same
 
   pub due_silent : (end.status ≡ ended.Differs) ⊎ (end.status ≡ ended.Damaged) → before.told ≡ None
@@ -428,6 +479,7 @@ module _ (view : Option FileView) (words : List (List ℕ)) (before : Stock) (en
       refused : (why : Refusal) → IsRefused why before end → (end.status ≡ ended.Differs) ⊎ (end.status ≡ ended.Damaged) → ⊥
       refused why h (inl k) = refusal_other why end.status ended.Differs end.plan end.text h.says refl k
       refused why h (inr k) = refusal_other why end.status ended.Damaged end.plan end.text h.says refl k
+
       by : (answer : Result Task Refusal) → Ends before answer end → before.told ≡ None
       by (Ok t) h = carried_silent before.told end.status (carried before t end h) odd
       by (Err why) h = absurd (refused why h odd)
@@ -498,3 +550,18 @@ usage_yields status (inr h) = inr (inl h)
 pub grew_none : (held : Option (List ℕ)) → GrewBy [] held held
 grew_none None = tt
 grew_none (Some bytes) = sym (append-nil bytes)
+
+pub grew_at : (text : List ℕ) (held : Option (List ℕ)) → text ≡ [] → GrewBy text held held
+grew_at text held is = subst (λ (t : List ℕ). GrewBy t held held) (sym is) (grew_none held)
+
+-- the plan that is left
+pub kept_at : (status due_status : Status) (plan due_plan kept : Plan) → status ≡ due_status → plan ≡ due_plan → IsKept status plan kept → IsKept due_status due_plan kept
+kept_at status due_status plan due_plan kept s p h = record { whole = λ done. h.whole (s ∙ done) ∙ p; none = λ other. h.none (λ done. other (sym s ∙ done)) }
+
+-- a failed write is not odd
+pub write_even : (ended.WriteFault ≡ ended.Differs) ⊎ (ended.WriteFault ≡ ended.Damaged) → ⊥
+write_even (inl h) = cc
+write_even (inr h) = cc
+
+pub odd_at : (status due_status : Status) → status ≡ due_status → (status ≡ ended.Differs) ⊎ (status ≡ ended.Damaged) → (due_status ≡ ended.Differs) ⊎ (due_status ≡ ended.Damaged)
+odd_at status due_status same odd = subst (λ (s : Status). (s ≡ ended.Differs) ⊎ (s ≡ ended.Damaged)) same odd

@@ -10,3 +10,4 @@ pub mod TaskLemmas
 pub mod OnceLemmas
 pub mod EndLemmas
 pub mod AloneLemmas
+pub mod WrittenLemmas

@@ -10,7 +10,7 @@ use Rattle.exec_tree.specs.Forests.{ForestParts}
 use Rattle.audit_run.specs.Sources.{HaveTheirNames, HaveTheirSources}
 use Rattle.cell_reader.specs.Cells.{IsCellOf, IsRead}
 use Rattle.cell_reader.proofs.ReadLemmas.{all_by_source, all_names, is_read}
-use Rattle.chex_top.specs.declared.bad_cell.BadCell.{BadCell}
+use Rattle.chex_top.specs.declared.bad_cell.BadCell as bad
 use Rattle.chex_top.specs.declared.refusal.Refusal.{Refusal}
 use Rattle.chex_top.specs.declared.refusal.Refusal.TheVariants.{Usage, Absent, ReadFailed, BadFile, BadCell, TooManyNodes, TooManyBlocks, NoMemory}
 use Rattle.chex_top.specs.declared.task.Task.{Task}
@@ -58,7 +58,7 @@ due_refused (Some file) words why read = inr (why, read, refl)
 -- ---- counts
 
 -- a refusal of a cell comes with no count
-pub cell_counted : (Holds : BadCell → Type 0) (why : Refusal) → IsCellRefusal Holds why → (a0 a1 f0 f1 : ℕ) → IsCounted why a0 a1 f0 f1
+pub cell_counted : (Holds : bad.BadCell → Type 0) (why : Refusal) → IsCellRefusal Holds why → (a0 a1 f0 f1 : ℕ) → IsCounted why a0 a1 f0 f1
 cell_counted Holds (BadCell bad) h a0 a1 f0 f1 = tt
 cell_counted Holds NoMemory h a0 a1 f0 f1 = tt
 cell_counted Holds Usage h a0 a1 f0 f1 = absurd h

@@ -2,6 +2,7 @@
 use Rattle.std.proofs.Common.{◌≡◌, ◌≤◌, ◌<◌, ℕ, Bool, true, false, nat_lt, List, [], ◌∷◌, Option, Some, None, sym, ◌∙◌, ap, subst, refl, arith}
 use Rattle.std.specs.Prelude.{codes, bytes_eq, if◌then◌else◌, option_map, option_and_then}
 use Rattle.std.specs.Option.{unwrap_or}
+use Rattle.std.specs.Str.{chars}
 use Rattle.std.proofs.lemmas.Bool.{ltb-false}
 use Rattle.clap.specs.Words.{Row, Text}
 use Rattle.chex_words.specs.Apps.{run_app, solo_app}
@@ -61,30 +62,48 @@ allowed rows n h = or_within 1000000 1 1000000 (value_at (codes "steps") rows) n
 
 -- ---- commands
 
+abbrev solo_made : List ℕ → ℕ → SoloWords
+solo_made notebook steps = record { notebook = chars notebook; steps = steps }
+
 solo_read : (rows : List Row) (w : SoloWords) → solo_at rows ≡ Some w → IsAllowance w.steps
 unfolding solo_at
 solo_read rows w h =
-    let t = then_some _ _ w h in
-    let m = map_some _ (steps_at rows) w t.2 in
+    let t = then_some {A = List ℕ} (λ notebook. option_map (solo_made notebook) (steps_at rows)) (value_at (codes "notebook") rows) w h in
+    let m = map_some (solo_made t.0) (steps_at rows) w t.2 in
     subst (λ (w : SoloWords). IsAllowance w.steps) m.2 (allowed rows m.0 m.1)
+
+abbrev store_made : ℕ → Option ℕ → ℕ → ℕ → StoreWords
+store_made budget block save load = record { budget = budget; block = block; save = save; load = load }
+
+abbrev with_load : List Row → ℕ → Option ℕ → ℕ → Option StoreWords
+with_load rows budget block save = option_map (store_made budget block save) (price_at (codes "load") rows)
+
+abbrev with_save : List Row → ℕ → Option ℕ → Option StoreWords
+with_save rows budget block = option_and_then (with_load rows budget block) (price_at (codes "save") rows)
+
+abbrev with_block : List Row → ℕ → Option StoreWords
+with_block rows budget = option_and_then (with_save rows budget) (optional_number 256 1048576 (value_at (codes "block") rows))
 
 stored : (rows : List Row) (s : StoreWords) → store_at rows ≡ Some s → IsStore s
 stored rows s h =
-    let budget = then_some _ _ s h in
-    let block = then_some _ _ s budget.2 in
-    let save = then_some _ _ s block.2 in
-    let load = map_some _ (price_at (codes "load") rows) s save.2 in
+    let budget = then_some (with_block rows) (option_and_then number_of (value_at (codes "budget") rows)) s h in
+    let block = then_some (with_save rows budget.0) (optional_number 256 1048576 (value_at (codes "block") rows)) s budget.2 in
+    let save = then_some (with_load rows budget.0 block.0) (price_at (codes "save") rows) s block.2 in
+    let load = map_some (store_made budget.0 block.0 save.0) (price_at (codes "load") rows) s save.2 in
     let size = optional_within (value_at (codes "block") rows) block.0 block.1 in
     let saves = or_within 0 0 1000000 (value_at (codes "save") rows) save.0 (omega arith) (omega arith) save.1 in
     let loads = or_within 0 0 1000000 (value_at (codes "load") rows) load.0 (omega arith) (omega arith) load.1 in
     subst (λ (s : StoreWords). IsStore s) load.2 (record { small = size.0; large = size.1; save = saves.1; load = loads.1 })
 
+abbrev run_made : List Row → List ℕ → StoreWords → ℕ → RunWords
+run_made rows manifest store steps = record { manifest = chars manifest; store = store; steps = steps; taps = taps_at rows }
+
 run_read : (rows : List Row) (w : RunWords) → run_at rows ≡ Some w → IsAllowance w.steps × IsStore w.store
 unfolding run_at
 run_read rows w h =
-    let t = then_some _ _ w h in
-    let s = then_some _ (store_at rows) w t.2 in
-    let m = map_some _ (steps_at rows) w s.2 in
+    let t = then_some {A = List ℕ} (λ manifest. option_and_then (λ store. option_map (run_made rows manifest store) (steps_at rows)) (store_at rows)) (value_at (codes "manifest") rows) w h in
+    let s = then_some (λ store. option_map (run_made rows t.0 store) (steps_at rows)) (store_at rows) w t.2 in
+    let m = map_some (run_made rows t.0 s.0) (steps_at rows) w s.2 in
     subst (λ (w : RunWords). IsAllowance w.steps × IsStore w.store) m.2 (allowed rows m.0 m.1, stored rows s.0 s.1)
 
 -- the chain of commands, by which of the names the first word is

@@ -130,7 +130,10 @@ fn said(alloc: Global, versions: &[Checked], budget: &Budget, shared: Shared) ->
 {
     let numbers = numbers(versions, budget, &shared);
     let Shared {
-        plan, texts, ways, ..
+        plan,
+        texts,
+        ways,
+        ..
     } = shared;
     match Said::run(alloc, versions, texts, ways, &numbers) {
         Ok(text) => Decision {

@@ -10,9 +10,9 @@ mod alone;
 mod asked;
 mod bad_cell;
 mod budget;
+mod calling;
 mod carrying;
 mod checking;
-mod chex;
 mod decide;
 mod decision;
 mod files;
@@ -24,4 +24,4 @@ mod stopped;
 mod task;
 mod version;
 
-pub use chex::{Finish, chex};
+pub use calling::{Finish, chex};

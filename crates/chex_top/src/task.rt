@@ -22,7 +22,10 @@ use std::alloc::Global;
 #[derive(Drop)]
 pub enum Task {
     /// One version alone, with so many steps for each cell.
-    Alone { version: Checked, steps: u64 },
+    Alone {
+        version: Checked,
+        steps: u64,
+    },
     /// Versions that share their equal beginnings, within a budget, with so many steps for each
     /// cell.
     Shared {
@@ -84,12 +87,7 @@ fn alone(alloc: Global, version: Version, steps: u64) -> Result<Task, Refusal>
 }
 
 /// Versions that share, if their cells are accepted and they have at most 512 nodes.
-fn shared(
-    alloc: Global,
-    versions: Versions,
-    budget: Budget,
-    steps: u64,
-) -> Result<Task, Refusal>
+fn shared(alloc: Global, versions: Versions, budget: Budget, steps: u64) -> Result<Task, Refusal>
     requires small { AreSmall versions }
     requires few { length versions ≤ 64 }
     requires budget { IsBudget budget }

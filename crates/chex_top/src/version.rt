@@ -62,7 +62,10 @@ impl Versions {
 #[derive(Drop)]
 pub enum Job {
     /// One version alone, with so many steps for each cell.
-    Alone { version: Version, steps: u64 },
+    Alone {
+        version: Version,
+        steps: u64,
+    },
     /// Versions that share their equal beginnings, within a budget, with so many steps for each
     /// cell.
     Shared {

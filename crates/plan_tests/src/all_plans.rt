@@ -1,22 +1,12 @@
 //! Least plans against all plans of small trees, whose costs are added up here by the rules anew.
+ghost use Rattle.plan_type.specs.Costs.{IsSound};
 
-use chex_base::NodeId;
+use crate::costs::sound_costs;
+use crate::fault::Fault;
+use crate::words::{field, number};
 use plan_optimum::least;
-use plan_type::{Budget, Costs, Reach, Row};
-use sqlite_items::Items;
+use plan_type::{Budget, Costs, Row};
 use std::alloc::Global;
-use std::process::Abort;
-use std::test::Fail;
-
-fn done(parent: u32, steps: u64, bytes: u64) -> Row {
-    Row {
-        parent: NodeId(parent),
-        end: Reach::Done,
-        steps,
-        bytes,
-        text: [7; 32],
-    }
-}
 
 /// One plan of a small tree: who comes later among siblings, and which entries hold.
 #[derive(Clone, Copy)]
@@ -113,7 +103,7 @@ fn cost_of(
     rows: &[Row],
     budget: &Budget,
     choice: Choice,
-) -> Result<Option<u64>, Fail> {
+) -> Result<Option<u64>, Fault> {
     let mut back = vec![in alloc; 0u64; 1]?;
     let mut again = vec![in alloc; 0u64; 1]?;
     let mut used = vec![in alloc; 0u64; 1]?;
@@ -149,7 +139,7 @@ fn cost_of(
 }
 
 /// The least cost of all plans of the tree that fit, no node of which has more children than `base`.
-fn cheapest(alloc: Global, rows: &[Row], budget: &Budget, base: u32) -> Result<u64, Fail> {
+fn cheapest(alloc: Global, rows: &[Row], budget: &Budget, base: u32) -> Result<u64, Fault> {
     let mut all_ranks = 1u32;
     let mut all_held = 1u32;
     for _ in rows {
@@ -171,101 +161,50 @@ fn cheapest(alloc: Global, rows: &[Row], budget: &Budget, base: u32) -> Result<u
 /// Prices of saving and of loading a block.
 const PRICES: [(u32, u32); 5] = [(0, 0), (1, 0), (0, 2), (2, 1), (9, 3)];
 
-fn against_all(
-    rt: &impl Abort,
-    alloc: Global,
-    name: &str,
-    rows: &[Row],
-    base: u32,
-) -> Result<(), Fail> {
-    let costs = Costs {
-        rows: Items::from_slice(alloc, rows)?,
-    };
-    assert!(rt; costs.sound(), "{name}");
-    for most in 0..4u32 {
-        for (save, load) in PRICES {
-            let budget = Budget {
-                block: 4096,
-                most,
-                save,
-                load,
-            };
-            assert!(rt; save <= 1_000_000 && load <= 1_000_000);
-            let plan = least(alloc, &costs, &budget)?;
-            let best = cheapest(alloc, rows, &budget, base)?;
-            assert_eq!(rt; plan.cost(&costs, &budget), best, "{name}");
-        }
-    }
-    Ok(())
+/// The costs of a row, no node of which has more children than the number behind them says: with
+/// how many of 20 budgets the least plan costs what the cheapest of all plans does.
+pub fn against_all(alloc: Global, row: &str) -> Result<String, Fault> {
+    let (costs, base) = field(row)?;
+    let base = number(base)?;
+    let costs = sound_costs(alloc, costs)?;
+    let agree = agreeing(alloc, &costs, base)?;
+    Ok(format!(in alloc; "{agree} budgets agree")?)
 }
 
-#[test]
-fn no_plan_of_four_nodes_is_cheaper(rt: HostRuntime) -> Result<(), Fail> {
-    let alloc = rt.alloc();
-    for second in 0..2u32 {
-        for third in 0..3u32 {
-            for fourth in 0..4u32 {
-                let rows = [
-                    done(0, 9, 4096),
-                    done(second, 2, 8192),
-                    done(third, 4, 4096),
-                    done(fourth, 3, 4096),
-                ];
-                against_all(&rt, alloc, "four nodes", &rows, 3)?;
+fn agreeing(alloc: Global, costs: &Costs, base: u32) -> Result<u32, Fault>
+    requires { IsSound costs.now }
+{
+    let mut agree: u32 = 0;
+    for most in 0..4u32 {
+        for (save, load) in PRICES {
+            if agrees(alloc, costs, base, most, (save, load))? {
+                agree = agree.saturating_add(1);
             }
         }
     }
-    Ok(())
+    Ok(agree)
 }
 
-#[test]
-fn no_plan_of_a_small_tree_is_cheaper(rt: HostRuntime) -> Result<(), Fail> {
-    let alloc = rt.alloc();
-    let two_roots = [
-        done(0, 4, 4096),
-        done(0, 7, 8192),
-        done(1, 2, 4096),
-        done(1, 1, 4096),
-        done(2, 6, 100),
-    ];
-    against_all(&rt, alloc, "two roots", &two_roots, 2)?;
-    let deep = [
-        done(0, 10, 4096),
-        done(1, 20, 4096),
-        done(1, 1, 4096),
-        done(2, 1, 4096),
-        done(2, 1, 4096),
-    ];
-    against_all(&rt, alloc, "two levels", &deep, 2)?;
-    let mixed = [
-        done(0, 10, 4096),
-        done(1, 1, 4096),
-        done(1, 20, 4096),
-        done(1, 1, 4096),
-        done(3, 1, 4096),
-        done(3, 1, 4096),
-    ];
-    against_all(&rt, alloc, "leaves beside a node that is held", &mixed, 3)?;
-    let six = [
-        done(0, 3, 4096),
-        done(1, 8, 8192),
-        done(2, 1, 4096),
-        done(2, 2, 4096),
-        done(1, 5, 100),
-        done(3, 4, 100),
-    ];
-    against_all(&rt, alloc, "six nodes", &six, 2)
-}
-
-#[test]
-fn no_plan_of_a_star_is_cheaper(rt: HostRuntime) -> Result<(), Fail> {
-    let alloc = rt.alloc();
-    let star = [
-        done(0, 9, 4096),
-        done(1, 2, 4096),
-        done(1, 3, 8192),
-        done(1, 5, 4096),
-        done(4, 1, 4096),
-    ];
-    against_all(&rt, alloc, "a star", &star, 3)
+fn agrees(
+    alloc: Global,
+    costs: &Costs,
+    base: u32,
+    most: u32,
+    prices: (u32, u32),
+) -> Result<bool, Fault>
+    requires { IsSound costs.now }
+{
+    let (save, load) = prices;
+    if most > 1024 || save > 1_000_000 || load > 1_000_000 {
+        return Err(Fault::Unread);
+    }
+    let budget = Budget {
+        block: 4096,
+        most,
+        save,
+        load,
+    };
+    let plan = least(alloc, costs, &budget)?;
+    let best = cheapest(alloc, costs.rows.as_slice(), &budget, base)?;
+    Ok(plan.cost(costs, &budget) == best)
 }

@@ -1,10 +1,5 @@
-use Rattle.std.proofs.Common.{◌≡◌, ◌<◌, ◌≤◌, ◌+◌, ◌∙◌, Option, IfSome, IsSome, is_some, Some, length, subst, sym, ap, arith, rules}
-use Rattle.std.specs.Prelude.{option_map}
-use Rattle.star_syntax.specs.Cells.{numbered}
-use Rattle.star_syntax.specs.declared.cell.Program.{Program}
-use Rattle.star_meaning.specs.Validity.{MachineState, after, ran_at}
-use Rattle.node_rows.specs.Measures.{IsMeasured}
-use Rattle.chex_top.proofs.AloneLemmas.{ended, may_run, one_more, program_of, ran_here, starts, stopped}
+use Rattle.std.proofs.Common.{◌<◌, ◌≤◌, ◌∙◌, length, arith, rules}
+use Rattle.chex_top.proofs.AloneLemmas.{ended, may_run, one_more, ran_here, starts, stopped}
 use Rattle.chex_top.proofs.alone.run_alone.Goals as goal
 
 pub loop-place-init : goal.loop-place-init
@@ -19,30 +14,29 @@ pub run_node-requires-clause-ready : goal.run_node-requires-clause-ready
 run_node-requires-clause-ready g c =
     let at = c.loop-place in
     let inside : at.place < length c.args.cells = search rules in
-    (may_run c.args.cells c.args.inputs.now c.args.allowance (g.K.Kernel.steps c.args.kernel.now) (g.K.Kernel.steps at.kernel) at.place at.text (g.K.Kernel.live at.kernel)
-    inside c.requires.few c.requires.allowance.1 c.requires.steps at.invariant.running).ready
+    (may_run c.args.cells c.args.inputs.now c.args.allowance (g.K.Kernel.loaded at.kernel) (g.K.Kernel.steps c.args.kernel.now) (g.K.Kernel.steps at.kernel) at.place at.text (g.K.Kernel.live at.kernel)
+    inside c.requires.few c.requires.allowance.1 c.requires.steps at.invariant.loaded at.invariant.running).ready
 
 pub run_node-requires-clause-node : goal.run_node-requires-clause-node
 run_node-requires-clause-node g c =
     let at = c.loop-place in
     let inside : at.place < length c.args.cells = search rules in
-    subst (λ (p : Program). IsSome (numbered p.cells (at.place + 1))) (sym at.invariant.loaded)
-    (may_run c.args.cells c.args.inputs.now c.args.allowance (g.K.Kernel.steps c.args.kernel.now) (g.K.Kernel.steps at.kernel) at.place at.text (g.K.Kernel.live at.kernel)
-    inside c.requires.few c.requires.allowance.1 c.requires.steps at.invariant.running).node_there
+    (may_run c.args.cells c.args.inputs.now c.args.allowance (g.K.Kernel.loaded at.kernel) (g.K.Kernel.steps c.args.kernel.now) (g.K.Kernel.steps at.kernel) at.place at.text (g.K.Kernel.live at.kernel)
+    inside c.requires.few c.requires.allowance.1 c.requires.steps at.invariant.loaded at.invariant.running).node_there
 
 pub run_node-requires-clause-few : goal.run_node-requires-clause-few
 run_node-requires-clause-few g c =
     let at = c.loop-place in
     let inside : at.place < length c.args.cells = search rules in
-    (may_run c.args.cells c.args.inputs.now c.args.allowance (g.K.Kernel.steps c.args.kernel.now) (g.K.Kernel.steps at.kernel) at.place at.text (g.K.Kernel.live at.kernel)
-    inside c.requires.few c.requires.allowance.1 c.requires.steps at.invariant.running).few
+    (may_run c.args.cells c.args.inputs.now c.args.allowance (g.K.Kernel.loaded at.kernel) (g.K.Kernel.steps c.args.kernel.now) (g.K.Kernel.steps at.kernel) at.place at.text (g.K.Kernel.live at.kernel)
+    inside c.requires.few c.requires.allowance.1 c.requires.steps at.invariant.loaded at.invariant.running).few
 
 pub run_node-requires-clause-room : goal.run_node-requires-clause-room
 run_node-requires-clause-room g c =
     let at = c.loop-place in
     let inside : at.place < length c.args.cells = search rules in
-    (may_run c.args.cells c.args.inputs.now c.args.allowance (g.K.Kernel.steps c.args.kernel.now) (g.K.Kernel.steps at.kernel) at.place at.text (g.K.Kernel.live at.kernel)
-    inside c.requires.few c.requires.allowance.1 c.requires.steps at.invariant.running).room
+    (may_run c.args.cells c.args.inputs.now c.args.allowance (g.K.Kernel.loaded at.kernel) (g.K.Kernel.steps c.args.kernel.now) (g.K.Kernel.steps at.kernel) at.place at.text (g.K.Kernel.live at.kernel)
+    inside c.requires.few c.requires.allowance.1 c.requires.steps at.invariant.loaded at.invariant.running).room
 
 pub loop-place-preserved : goal.loop-place-preserved
 loop-place-preserved g c =
