@@ -1,7 +1,7 @@
 //! A call of `chex` over the files of the table.
 use crate::facts::{failing, number_after};
 use crate::fault::Fault;
-use chex_base::{MemoryLibrary, MemorySink};
+use chex_base::{Calls, MemoryLibrary, MemorySink};
 use chex_top::chex;
 use kernel_api::{Kernel, Store};
 use snap_store::FailingStore;
@@ -12,12 +12,11 @@ use tap_list::{Chain, FailingTap, Tally, Tap, Taps, Transcript};
 /// The bytes that the sink has room for.
 const ROOM: usize = 20_000;
 
-/// How a call ended, and what is told after it.
-#[derive(Drop)]
-pub struct Ended {
+/// How a call ended, and what the devices tell after it.
+#[derive(Clone, Copy)]
+pub struct Told {
     /// The number of its status.
     pub status: u8,
-    pub written: String,
     /// How many reads were made.
     pub reads: u64,
     pub writes: u64,
@@ -32,6 +31,13 @@ pub struct Ended {
     pub used: u64,
     /// The children of the node that no version has, in the plan.
     pub planned: u64,
+}
+
+/// How a call ended, what it wrote, and what is told after it.
+#[derive(Drop)]
+pub struct Ended {
+    pub told: Told,
+    pub written: String,
     /// What the live listeners report, with bars between.
     pub live: String,
     pub retired: String,
@@ -74,20 +80,40 @@ fn called_before(
     library.failing = failing(alloc, facts, "fails library ")?;
     library.calls = 0;
     let mut out = MemorySink::new(alloc, ROOM, failing(alloc, facts, "fails sink ")?)?;
-    let mut kernel = FailingKernel::new(alloc, failing(alloc, facts, "fails kernel ")?);
-    let mut store = FailingStore::new(alloc, failing(alloc, facts, "fails store ")?);
-    let finish = chex(
+    let kernel_fails = failing(alloc, facts, "fails kernel ")?;
+    let store_fails = failing(alloc, facts, "fails store ")?;
+    let told = told_after(
         alloc,
         &words,
         library,
         &mut out,
-        &mut kernel,
-        &mut store,
+        kernel_fails,
+        store_fails,
         taps,
     );
     Ok(Ended {
-        status: finish.status.number(),
+        told,
         written: text_of(alloc, out.bytes.as_slice())?,
+        live: reports(alloc, taps.live())?,
+        retired: reports(alloc, taps.retired())?,
+    })
+}
+
+/// Calls `chex` over a kernel and a store that fail at these calls.
+fn told_after(
+    alloc: Global,
+    words: &[String],
+    library: &mut MemoryLibrary,
+    out: &mut MemorySink,
+    kernel_fails: Calls,
+    store_fails: Calls,
+    taps: &mut Taps,
+) -> Told {
+    let mut kernel = FailingKernel::new(alloc, kernel_fails);
+    let mut store = FailingStore::new(alloc, store_fails);
+    let finish = chex(alloc, words, library, out, &mut kernel, &mut store, taps);
+    Told {
+        status: finish.status.number(),
         reads: library.calls,
         writes: out.calls,
         kernel_calls: kernel.calls,
@@ -96,9 +122,7 @@ fn called_before(
         peak: u64::from(store.peak()),
         used: u64::from(store.used()),
         planned: finish.plan.entries.len() as u64,
-        live: reports(alloc, taps.live())?,
-        retired: reports(alloc, taps.retired())?,
-    })
+    }
 }
 
 fn words_of(alloc: Global, line: &str) -> Result<Vec<String>, Fault> {

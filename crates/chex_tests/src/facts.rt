@@ -40,15 +40,16 @@ pub fn failing(alloc: Global, facts: &[&str], device: &str) -> Result<Calls, Fau
 
 /// What is told after a call under this name.
 pub fn found(alloc: Global, ended: &Ended, name: &str) -> Result<String, Fault> {
+    let told = ended.told;
     let number = match name {
-        "reads" => ended.reads,
-        "writes" => ended.writes,
-        "kernel calls" => ended.kernel_calls,
-        "store calls" => ended.store_calls,
-        "steps" => ended.steps,
-        "peak" => ended.peak,
-        "used" => ended.used,
-        "planned" => ended.planned,
+        "reads" => told.reads,
+        "writes" => told.writes,
+        "kernel calls" => told.kernel_calls,
+        "store calls" => told.store_calls,
+        "steps" => told.steps,
+        "peak" => told.peak,
+        "used" => told.used,
+        "planned" => told.planned,
         "live" => return Ok(String::from_str(alloc, ended.live.as_str())?),
         "retired" => return Ok(String::from_str(alloc, ended.retired.as_str())?),
         _ => return Err(Fault::Unread),

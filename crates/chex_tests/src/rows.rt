@@ -22,7 +22,7 @@ pub fn difference(
     };
     let ended = called(alloc, words, facts, library)?;
     let wanted = with_newlines(alloc, written)?;
-    let number = format!(in alloc; "{}", ended.status)?;
+    let number = format!(in alloc; "{}", ended.told.status)?;
     if number.as_str() != *status || ended.written.as_str() != wanted.as_str() {
         let text = ended.written;
         return Ok(Some(format!(in alloc; "status {number}, {text:?}")?));
