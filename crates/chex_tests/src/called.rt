@@ -43,6 +43,32 @@ pub struct Ended {
     pub retired: String,
 }
 
+/// The words and the devices of a call.
+#[derive(Drop)]
+struct Devices {
+    words: Vec<String>,
+    out: MemorySink,
+    kernel_fails: Calls,
+    store_fails: Calls,
+}
+
+/// The words and the devices, of which those fail that the facts name. The library fails so too.
+fn made_devices(
+    alloc: Global,
+    words: &str,
+    facts: &[&str],
+    library: &mut MemoryLibrary,
+) -> Result<Devices, Fault> {
+    library.failing = failing(alloc, facts, "fails library ")?;
+    library.calls = 0;
+    Ok(Devices {
+        words: words_of(alloc, words)?,
+        out: MemorySink::new(alloc, ROOM, failing(alloc, facts, "fails sink ")?)?,
+        kernel_fails: failing(alloc, facts, "fails kernel ")?,
+        store_fails: failing(alloc, facts, "fails store ")?,
+    })
+}
+
 /// Calls `chex` with these words, where the devices fail at the calls and the listeners are there
 /// that the facts name.
 pub fn called(
@@ -65,23 +91,12 @@ pub fn called(
         }
     }
     let mut taps = Taps::new(alloc, live)?;
-    called_before(alloc, words, facts, library, &mut taps)
-}
-
-/// The same before these listeners.
-fn called_before(
-    alloc: Global,
-    words: &str,
-    facts: &[&str],
-    library: &mut MemoryLibrary,
-    taps: &mut Taps,
-) -> Result<Ended, Fault> {
-    let words = words_of(alloc, words)?;
-    library.failing = failing(alloc, facts, "fails library ")?;
-    library.calls = 0;
-    let mut out = MemorySink::new(alloc, ROOM, failing(alloc, facts, "fails sink ")?)?;
-    let kernel_fails = failing(alloc, facts, "fails kernel ")?;
-    let store_fails = failing(alloc, facts, "fails store ")?;
+    let Devices {
+        words,
+        mut out,
+        kernel_fails,
+        store_fails,
+    } = made_devices(alloc, words, facts, library)?;
     let told = told_after(
         alloc,
         &words,
@@ -89,7 +104,7 @@ fn called_before(
         &mut out,
         kernel_fails,
         store_fails,
-        taps,
+        &mut taps,
     );
     Ok(Ended {
         told,
